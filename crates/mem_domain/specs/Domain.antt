@@ -1,0 +1,112 @@
+-- Sixteen slots and a count, taken literally: document 01, "Domain". What is said of slots is said of a list of any length, so that it
+-- serves slots that come from a table too; a slot behind the list's end reads as all zero, and storing there changes nothing.
+use Prim.Native.Nat.{ℕ, _<_, _≤_}
+use mathlib.Core.Path.{_≡_}
+use mathlib.Core.Bool.{Bool, true, false, cond, not, _&&_, _||_}
+use mathlib.Core.List.{List}
+use lib.Dec.{leb, eqb}
+use lib.ListN.{getD, set, replicate}
+use Rattle.answer.specs.Answer.{numberOf}
+use Rattle.answer.specs.declared.Code.the-variants.{Ok, Einval, Enospc, Enoent}
+use Rattle.mem_domain.specs.Scan.{countTo, lowest, anyTo}
+use Rattle.mem_domain.specs.Partition.{empty, isValid, overlapOf, isFree, isActive, holds, isWindow}
+use Rattle.mem_domain.specs.declared.MemPartition.{MemPartition}
+use Rattle.mem_domain.specs.declared.MemDomain.{MemDomain}
+use Rattle.mem_domain.specs.declared.Changed.{Changed}
+use Rattle.mem_domain.specs.declared.Got.{Got}
+
+-- domains of 16 slots
+abbrev pub slots : ℕ
+slots = 16
+
+-- slot k
+abbrev pub slotAt : List MemPartition → ℕ → MemPartition
+slotAt l k = getD l k empty
+
+-- how many of the first n slots are active
+abbrev pub activeTo : List MemPartition → ℕ → ℕ
+activeTo l = countTo (λ k. isActive (slotAt l k))
+
+-- the active slots
+unfoldable pub activeCount : List MemPartition → ℕ
+activeCount l = activeTo l slots
+
+-- slot k is active and overlaps the window
+abbrev pub clashAt : List MemPartition → MemPartition → ℕ → Bool
+clashAt l p k = isActive (slotAt l k) && overlapOf p (slotAt l k)
+
+-- the window overlaps an active slot
+unfoldable pub clashes : List MemPartition → MemPartition → Bool
+clashes l p = anyTo (clashAt l p) slots
+
+-- slot k is free
+abbrev pub freeAt : List MemPartition → ℕ → Bool
+freeAt l k = isFree (slotAt l k)
+
+-- the lowest free slot; 16 where the domain is full
+unfoldable pub lowestFree : List MemPartition → ℕ
+lowestFree l = lowest (freeAt l) slots
+
+-- not full: some slot has size 0, whatever the count says
+unfoldable pub hasFree : List MemPartition → Bool
+hasFree l = anyTo (freeAt l) slots
+
+-- slot k has that start and size
+abbrev pub windowAt : List MemPartition → ℕ → ℕ → ℕ → Bool
+windowAt l start size k = isWindow start size (slotAt l k)
+
+-- the lowest slot with that start and size; 16 where there is none
+unfoldable pub lowestWindow : List MemPartition → ℕ → ℕ → ℕ
+lowestWindow l start size = lowest (windowAt l start size) slots
+
+-- some slot has that start and size
+unfoldable pub hasWindow : List MemPartition → ℕ → ℕ → Bool
+hasWindow l start size = anyTo (windowAt l start size) slots
+
+-- slot k is active and holds the address
+abbrev pub holdsAt : List MemPartition → ℕ → ℕ → Bool
+holdsAt l a k = isActive (slotAt l k) && holds (slotAt l k) a
+
+-- some active slot holds the address
+unfoldable pub containsAddr : List MemPartition → ℕ → Bool
+containsAddr l a = anyTo (holdsAt l a) slots
+
+-- no slot is active
+unfoldable pub noPartitions : MemDomain
+noPartitions = record { partitions = replicate slots empty; «num_partitions» = 0 }
+
+-- a refusal changes nothing and returns value 0
+abbrev pub refused : ℕ → MemDomain → Changed
+refused code d = record { code = code; value = 0; domain = d }
+
+-- OK returns the slot; that slot alone is another, and the count is set anew from the slots
+unfoldable pub changedAt : List MemPartition → ℕ → MemPartition → Changed
+changedAt l k p =
+    record { code = numberOf Ok; value = k; domain = record { partitions = set l k p; «num_partitions» = activeCount (set l k p) } }
+
+-- add: EINVAL if invalid or overlapping an active slot; else ENOSPC if full; else the window goes into the lowest free slot
+unfoldable pub added : MemDomain → MemPartition → Changed
+added d p =
+    cond (not (isValid p) || clashes (d .partitions) p) (refused (numberOf Einval) d) (
+    cond (not (hasFree (d .partitions))) (refused (numberOf Enospc) d) (
+    changedAt (d .partitions) (lowestFree (d .partitions)) p))
+
+-- remove: size 0 or no match is ENOENT; else the lowest slot with that start and size becomes all zero
+unfoldable pub removed : MemDomain → ℕ → ℕ → Changed
+removed d start size =
+    cond (eqb size 0 || not (hasWindow (d .partitions) start size)) (refused (numberOf Enoent) d) (
+    changedAt (d .partitions) (lowestWindow (d .partitions) start size) empty)
+
+-- a refusal's three fields are zeros
+abbrev pub gotNothing : ℕ → Got
+gotNothing code = record { code = code; start = 0; size = 0; attr = 0 }
+
+-- the three fields of a slot
+abbrev pub gotSlot : MemPartition → Got
+gotSlot p = record { code = numberOf Ok; start = p .start; size = p .size; attr = p .attr }
+
+-- get: slot >= 16 is EINVAL, empty is ENOENT
+unfoldable pub gotten : MemDomain → ℕ → Got
+gotten d k =
+    cond (leb slots k) (gotNothing (numberOf Einval)) (
+    cond (freeAt (d .partitions) k) (gotNothing (numberOf Enoent)) (gotSlot (slotAt (d .partitions) k)))

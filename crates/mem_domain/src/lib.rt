@@ -1,0 +1,326 @@
+// Memory domains: up to sixteen windows of addresses, upstream's mem_domain.rs. Every function takes any record literally,
+// refuses by document 01's numbers instead of requiring anything, and is promised to equal its definition in specs/: so an
+// accepted window is stored as it was asked for, in the lowest free slot, and a refusal hands the same record back.
+ghost use mathlib.Core.Path.{_≡_};
+ghost use mathlib.Core.Bool.{not, _&&_};
+ghost use Prim.Native.Nat.{_<_};
+ghost use lib.Dec.{ltb};
+ghost use Rattle.mem_domain.specs.Partition.{windowOf, endOf, isValid, overlapOf, isActive, holds, isWindow};
+ghost use Rattle.mem_domain.specs.Domain.{activeCount, clashes, lowestFree, hasFree, lowestWindow, containsAddr, noPartitions, refused, changedAt, added, removed, gotNothing, gotten};
+
+// Upstream's limit, and the same as a number of places.
+pub const MAX_PARTITIONS: u32 = 16;
+
+const SLOTS: usize = 16;
+
+// A window of addresses and its rights. Size 0 marks a free slot.
+pub struct MemPartition {
+    pub start: u32,
+    pub size: u32,
+    pub attr: u32,
+}
+
+// By value: a function that changes a domain hands it back.
+pub struct MemDomain {
+    pub partitions: [MemPartition; SLOTS],
+    pub num_partitions: u32,
+}
+
+// What add and remove hand back: the answer, the slot beside it, and the domain.
+pub struct Changed {
+    pub code: u32,
+    pub value: u32,
+    pub domain: MemDomain,
+}
+
+// What get hands back: the answer, and the slot's three fields.
+pub struct Got {
+    pub code: u32,
+    pub start: u32,
+    pub size: u32,
+    pub attr: u32,
+}
+
+impl MemPartition {
+    // The end is worked wide, so that it never wraps.
+    pub fn end_u64(self) -> u64
+        ensures { λ r. ⌜ r ≡ endOf self ⌝ }
+    {
+        self.start as u64 + self.size as u64
+    }
+
+    pub fn is_valid(self) -> bool
+        ensures { λ r. ⌜ r ≡ isValid self ⌝ }
+    {
+        if self.size == 0 {
+            return false;
+        }
+        self.end_u64() <= 4294967295
+    }
+
+    pub fn overlaps(self, other: MemPartition) -> bool
+        ensures { λ r. ⌜ r ≡ overlapOf self other ⌝ }
+    {
+        if self.end_u64() <= other.start as u64 {
+            return false;
+        }
+        (self.start as u64) < other.end_u64()
+    }
+
+    // Active, and overlapping a window from start up to, and without, end.
+    fn meets(self, start: u32, end: u32) -> bool
+        ensures { λ r. ⌜ r ≡ isActive self && (ltb (self .start) end && ltb start (endOf self)) ⌝ }
+    {
+        if self.size == 0 {
+            return false;
+        }
+        if self.start >= end {
+            return false;
+        }
+        (start as u64) < self.end_u64()
+    }
+
+    // Active, and the address is from the start on and before the end.
+    fn covers(self, addr: u32) -> bool
+        ensures { λ r. ⌜ r ≡ isActive self && holds self addr ⌝ }
+    {
+        if self.size == 0 {
+            return false;
+        }
+        if addr < self.start {
+            return false;
+        }
+        (addr as u64) < self.end_u64()
+    }
+
+    fn is_window(self, start: u32, size: u32) -> bool
+        ensures { λ r. ⌜ r ≡ isWindow start size self ⌝ }
+    {
+        if self.start != start {
+            return false;
+        }
+        self.size == size
+    }
+}
+
+impl MemDomain {
+    pub fn init() -> MemDomain
+        ensures { λ r. ⌜ r ≡ noPartitions ⌝ }
+    {
+        let empty = MemPartition {
+            start: 0,
+            size: 0,
+            attr: 0,
+        };
+        MemDomain {
+            partitions: [empty; SLOTS],
+            num_partitions: 0,
+        }
+    }
+
+    pub fn add_partition(self, part: MemPartition) -> Changed
+        ensures { λ r. ⌜ r ≡ added self part ⌝ }
+    {
+        if !self.check_add_partition(part) {
+            return self.refuse(answer::EINVAL);
+        }
+        let k = self.first_free();
+        if k < SLOTS {
+            return self.put(k, part);
+        }
+        self.refuse(answer::ENOSPC)
+    }
+
+    pub fn remove_partition(self, start: u32, size: u32) -> Changed
+        ensures { λ r. ⌜ r ≡ removed self start size ⌝ }
+    {
+        if size == 0 {
+            return self.refuse(answer::ENOENT);
+        }
+        let k = self.first_window(start, size);
+        if k < SLOTS {
+            let empty = MemPartition {
+                start: 0,
+                size: 0,
+                attr: 0,
+            };
+            return self.put(k, empty);
+        }
+        self.refuse(answer::ENOENT)
+    }
+
+    pub fn num_partitions_get(self) -> u32
+        ensures { λ r. ⌜ r ≡ self .«num_partitions» ⌝ }
+    {
+        self.num_partitions
+    }
+
+    pub fn partition_get(self, idx: u32) -> Got
+        ensures { λ r. ⌜ r ≡ gotten self idx ⌝ }
+    {
+        if idx >= MAX_PARTITIONS {
+            return got_nothing(answer::EINVAL);
+        }
+        let k = idx as usize;
+        let p = self.partitions[k];
+        if p.size == 0 {
+            return got_nothing(answer::ENOENT);
+        }
+        Got {
+            code: answer::OK,
+            start: p.start,
+            size: p.size,
+            attr: p.attr,
+        }
+    }
+
+    pub fn has_free_slot(self) -> bool
+        ensures { λ r. ⌜ r ≡ hasFree (self .partitions) ⌝ }
+    {
+        self.first_free() < SLOTS
+    }
+
+    pub fn contains_addr(self, addr: u32) -> bool
+        ensures { λ r. ⌜ r ≡ containsAddr (self .partitions) addr ⌝ }
+    {
+        let mut k = 0;
+        while k < SLOTS {
+            let p = self.partitions[k];
+            if p.covers(addr) {
+                return true;
+            }
+            k += 1;
+        }
+        false
+    }
+
+    // The window's end is worked wide and, once the window is valid, kept as narrow as its start: the cast loses nothing.
+    fn check_add_partition(self, part: MemPartition) -> bool
+        ensures { λ r. ⌜ r ≡ isValid part && not (clashes (self .partitions) part) ⌝ }
+    {
+        if !part.is_valid() {
+            return false;
+        }
+        let start = part.start;
+        let end = part.end_u64() as u32;
+        let mut k = 0;
+        while k < SLOTS {
+            let p = self.partitions[k];
+            if p.meets(start, end) {
+                return false;
+            }
+            k += 1;
+        }
+        true
+    }
+
+    fn first_free(self) -> usize
+        ensures { λ r. ⌜ r ≡ lowestFree (self .partitions) ⌝ }
+    {
+        let mut k = 0;
+        while k < SLOTS {
+            let p = self.partitions[k];
+            if p.size == 0 {
+                return k;
+            }
+            k += 1;
+        }
+        k
+    }
+
+    fn first_window(self, start: u32, size: u32) -> usize
+        ensures { λ r. ⌜ r ≡ lowestWindow (self .partitions) start size ⌝ }
+    {
+        let mut k = 0;
+        while k < SLOTS {
+            let p = self.partitions[k];
+            if p.is_window(start, size) {
+                return k;
+            }
+            k += 1;
+        }
+        k
+    }
+
+    fn count_active(self) -> u32
+        ensures { λ r. ⌜ r ≡ activeCount (self .partitions) ⌝ }
+    {
+        let mut n = 0;
+        let mut k = 0;
+        while k < SLOTS {
+            let p = self.partitions[k];
+            if p.size != 0 {
+                n += 1;
+            }
+            k += 1;
+        }
+        n
+    }
+
+    // Slot k becomes p, and the count is worked out anew, whatever it was.
+    fn put(mut self, k: usize, p: MemPartition) -> Changed
+        requires { ⌜ k < 16 ⌝ }
+        ensures { λ r. ⌜ r ≡ changedAt (self .partitions) k p ⌝ }
+    {
+        self.partitions[k] = p;
+        self.num_partitions = self.count_active();
+        Changed {
+            code: answer::OK,
+            value: k as u32,
+            domain: self,
+        }
+    }
+
+    fn refuse(self, code: u32) -> Changed
+        ensures { λ r. ⌜ r ≡ refused code self ⌝ }
+    {
+        Changed {
+            code,
+            value: 0,
+            domain: self,
+        }
+    }
+}
+
+fn got_nothing(code: u32) -> Got
+    ensures { λ r. ⌜ r ≡ gotNothing code ⌝ }
+{
+    Got {
+        code,
+        start: 0,
+        size: 0,
+        attr: 0,
+    }
+}
+
+pub fn partition_valid_decide(start: u32, size: u32) -> bool
+    ensures { λ r. ⌜ r ≡ isValid (windowOf start size) ⌝ }
+{
+    let p = MemPartition {
+        start,
+        size,
+        attr: 0,
+    };
+    p.is_valid()
+}
+
+pub fn partitions_overlap_decide(
+    part_start: u32,
+    part_size: u32,
+    existing_start: u32,
+    existing_size: u32,
+) -> bool
+    ensures { λ r. ⌜ r ≡ overlapOf (windowOf «part_start» «part_size») (windowOf «existing_start» «existing_size») ⌝ }
+{
+    let p = MemPartition {
+        start: part_start,
+        size: part_size,
+        attr: 0,
+    };
+    let e = MemPartition {
+        start: existing_start,
+        size: existing_size,
+        attr: 0,
+    };
+    p.overlaps(e)
+}
