@@ -9,7 +9,7 @@ use lib.ListN.{getD, set, replicate}
 use Rattle.answer.specs.Answer.{numberOf}
 use Rattle.answer.specs.declared.Code.the-variants.{Ok, Einval, Enospc, Enoent}
 use Rattle.mem_domain.specs.Scan.{countTo, lowest, anyTo}
-use Rattle.mem_domain.specs.Partition.{empty, isValid, overlapOf, isFree, isActive, holds, isWindow}
+use Rattle.mem_domain.specs.Partition.{empty, isValid, meets, overlapOf, isFree, isActive, holds, isWindow}
 use Rattle.mem_domain.specs.declared.MemPartition.{MemPartition}
 use Rattle.mem_domain.specs.declared.MemDomain.{MemDomain}
 use Rattle.mem_domain.specs.declared.Changed.{Changed}
@@ -38,6 +38,17 @@ clashAt l p k = isActive (slotAt l k) && overlapOf p (slotAt l k)
 -- the window overlaps an active slot
 unfoldable pub clashes : List MemPartition → MemPartition → Bool
 clashes l p = anyTo (clashAt l p) slots
+
+-- the same of a window whose end is at hand
+abbrev pub crossedAt : List MemPartition → ℕ → ℕ → ℕ → Bool
+crossedAt l start end k = isActive (slotAt l k) && meets start end (slotAt l k)
+
+unfoldable pub crossed : List MemPartition → ℕ → ℕ → Bool
+crossed l start end = anyTo (crossedAt l start end) slots
+
+-- a window may be added where it is valid and overlaps no active slot
+unfoldable pub addable : List MemPartition → MemPartition → Bool
+addable l p = isValid p && not (clashes l p)
 
 -- slot k is free
 abbrev pub freeAt : List MemPartition → ℕ → Bool
@@ -87,7 +98,7 @@ changedAt l k p =
 -- add: EINVAL if invalid or overlapping an active slot; else ENOSPC if full; else the window goes into the lowest free slot
 unfoldable pub added : MemDomain → MemPartition → Changed
 added d p =
-    cond (not (isValid p) || clashes (d .partitions) p) (refused (numberOf Einval) d) (
+    cond (not (addable (d .partitions) p)) (refused (numberOf Einval) d) (
     cond (not (hasFree (d .partitions))) (refused (numberOf Enospc) d) (
     changedAt (d .partitions) (lowestFree (d .partitions)) p))
 

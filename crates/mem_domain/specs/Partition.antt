@@ -20,9 +20,13 @@ endOf p = p .start + p .size
 unfoldable pub isValid : MemPartition → Bool
 isValid p = ltb 0 (p .size) && leb (endOf p) 4294967295
 
+-- a window from start up to, and without, end, and a second one: each end exceeds the other's start
+unfoldable pub meets : ℕ → ℕ → MemPartition → Bool
+meets start end q = ltb (q .start) end && ltb start (endOf q)
+
 -- two overlap when each end exceeds the other's start
 unfoldable pub overlapOf : MemPartition → MemPartition → Bool
-overlapOf p q = ltb (q .start) (endOf p) && ltb (p .start) (endOf q)
+overlapOf p q = meets (p .start) (endOf p) q
 
 -- a slot is active when its size is not 0
 abbrev pub isFree : MemPartition → Bool

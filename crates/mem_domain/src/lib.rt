@@ -2,11 +2,10 @@
 // refuses by document 01's numbers instead of requiring anything, and is promised to equal its definition in specs/: so an
 // accepted window is stored as it was asked for, in the lowest free slot, and a refusal hands the same record back.
 ghost use mathlib.Core.Path.{_≡_};
-ghost use mathlib.Core.Bool.{not, _&&_};
+ghost use mathlib.Core.Bool.{_&&_};
 ghost use Prim.Native.Nat.{_<_};
-ghost use lib.Dec.{ltb};
-ghost use Rattle.mem_domain.specs.Partition.{windowOf, endOf, isValid, overlapOf, isActive, holds, isWindow};
-ghost use Rattle.mem_domain.specs.Domain.{activeCount, clashes, lowestFree, hasFree, lowestWindow, containsAddr, noPartitions, refused, changedAt, added, removed, gotNothing, gotten};
+ghost use Rattle.mem_domain.specs.Partition.{windowOf, endOf, isValid, overlapOf, isActive, meets, holds, isWindow};
+ghost use Rattle.mem_domain.specs.Domain.{activeCount, crossed, addable, lowestFree, hasFree, lowestWindow, containsAddr, noPartitions, refused, changedAt, added, removed, gotNothing, gotten};
 
 // Upstream's limit, and the same as a number of places.
 pub const MAX_PARTITIONS: u32 = 16;
@@ -69,7 +68,7 @@ impl MemPartition {
 
     // Active, and overlapping a window from start up to, and without, end.
     fn meets(self, start: u32, end: u32) -> bool
-        ensures { λ r. ⌜ r ≡ isActive self && (ltb (self .start) end && ltb start (endOf self)) ⌝ }
+        ensures { λ r. ⌜ r ≡ isActive self && meets start end self ⌝ }
     {
         if self.size == 0 {
             return false;
@@ -196,22 +195,27 @@ impl MemDomain {
 
     // The window's end is worked wide and, once the window is valid, kept as narrow as its start: the cast loses nothing.
     fn check_add_partition(self, part: MemPartition) -> bool
-        ensures { λ r. ⌜ r ≡ isValid part && not (clashes (self .partitions) part) ⌝ }
+        ensures { λ r. ⌜ r ≡ addable (self .partitions) part ⌝ }
     {
         if !part.is_valid() {
             return false;
         }
-        let start = part.start;
         let end = part.end_u64() as u32;
+        !self.crosses(part.start, end)
+    }
+
+    fn crosses(self, start: u32, end: u32) -> bool
+        ensures { λ r. ⌜ r ≡ crossed (self .partitions) start end ⌝ }
+    {
         let mut k = 0;
         while k < SLOTS {
             let p = self.partitions[k];
             if p.meets(start, end) {
-                return false;
+                return true;
             }
             k += 1;
         }
-        true
+        false
     }
 
     fn first_free(self) -> usize

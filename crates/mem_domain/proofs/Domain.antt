@@ -1,0 +1,79 @@
+-- The definitions of add, remove and get, case by case.
+use Prim.Native.Nat.{ℕ, _<_, _≤_}
+use mathlib.Core.Path.{_≡_, refl, sym, ap, _∙_}
+use mathlib.Core.Bool.{Bool, true, false, cond, not, _&&_, _||_}
+use mathlib.Core.List.{List}
+use lib.Dec.{ltb, leb, eqb}
+use borrow.Author.Tests.{lt-ltb, le-ltb, le-leb, lt-leb, eq-eqb, ne-eqb}
+use Rattle.answer.specs.Answer.{numberOf}
+use Rattle.answer.specs.declared.Code.the-variants.{Einval, Enospc, Enoent}
+use Rattle.mem_domain.specs.Partition.{empty, endOf, isValid, overlapOf, isFree}
+use Rattle.mem_domain.specs.Domain.{slotAt, freeAt, clashes, crossed, addable, lowestFree, hasFree, lowestWindow, hasWindow, refused, changedAt, added, removed, gotNothing, gotSlot, gotten}
+use Rattle.mem_domain.specs.declared.MemPartition.{MemPartition}
+use Rattle.mem_domain.specs.declared.MemDomain.{MemDomain}
+
+module _ (d : MemDomain) where
+  module _ (p : MemPartition) where
+    pub added-bad : addable (d .partitions) p ≡ false → added d p ≡ refused (numberOf Einval) d
+    unfolding added
+    added-bad e = rw e
+
+    pub added-full : addable (d .partitions) p ≡ true → hasFree (d .partitions) ≡ false → added d p ≡ refused (numberOf Enospc) d
+    unfolding added
+    added-full e f = rw (e, f)
+
+    pub added-ok : addable (d .partitions) p ≡ true → hasFree (d .partitions) ≡ true → added d p ≡ changedAt (d .partitions) (lowestFree (d .partitions)) p
+    unfolding added
+    added-ok e f = rw (e, f)
+
+  module _ (start size : ℕ) where
+    pub removed-zero : eqb size 0 ≡ true → removed d start size ≡ refused (numberOf Enoent) d
+    unfolding removed
+    removed-zero e = rw e
+
+    none : (z h : Bool) → h ≡ false → (z || not h) ≡ true
+    none true h e = refl
+    none false h e = rw e
+
+    pub removed-none : hasWindow (d .partitions) start size ≡ false → removed d start size ≡ refused (numberOf Enoent) d
+    unfolding removed
+    removed-none e = rw (none (eqb size 0) (hasWindow (d .partitions) start size) e)
+
+    pub removed-ok : eqb size 0 ≡ false → hasWindow (d .partitions) start size ≡ true → removed d start size ≡ changedAt (d .partitions) (lowestWindow (d .partitions) start size) empty
+    unfolding removed
+    removed-ok e f = rw (e, f)
+
+  module _ (k : ℕ) where
+    pub gotten-out : 16 ≤ k → gotten d k ≡ gotNothing (numberOf Einval)
+    unfolding gotten
+    gotten-out l = rw (le-leb 16 k l)
+
+    pub gotten-free : k < 16 → freeAt (d .partitions) k ≡ true → gotten d k ≡ gotNothing (numberOf Enoent)
+    unfolding gotten
+    gotten-free l e = rw (lt-leb 16 k l, e)
+
+    pub gotten-ok : k < 16 → freeAt (d .partitions) k ≡ false → gotten d k ≡ gotSlot (slotAt (d .partitions) k)
+    unfolding gotten
+    gotten-ok l e = rw (lt-leb 16 k l, e)
+
+-- there is a free slot, or a match, where the lowest is below 16
+pub has-free : (l : List MemPartition) → hasFree l ≡ ltb (lowestFree l) 16
+unfolding hasFree lowestFree
+has-free l = refl
+
+pub has-window : (l : List MemPartition) (start size : ℕ) → hasWindow l start size ≡ ltb (lowestWindow l start size) 16
+unfolding hasWindow lowestWindow
+has-window l start size = refl
+
+-- the overlap of a window with the slots is that of its start and end
+pub clashes-crossed : (l : List MemPartition) (p : MemPartition) (end : ℕ) → end ≡ endOf p → clashes l p ≡ crossed l (p .start) end
+unfolding clashes crossed overlapOf
+clashes-crossed l p end e = rw e
+
+pub addable-past : (l : List MemPartition) (p : MemPartition) → isValid p ≡ true → addable l p ≡ not (clashes l p)
+unfolding addable
+addable-past l p e = rw e
+
+pub addable-bad : (l : List MemPartition) (p : MemPartition) → isValid p ≡ false → addable l p ≡ false
+unfolding addable
+addable-bad l p e = rw e

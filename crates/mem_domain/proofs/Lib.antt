@@ -1,0 +1,4 @@
+pub mod Scan
+pub mod Tests
+pub mod Domain
+pub mod Partition
