@@ -3,10 +3,11 @@ use Prim.Native.Nat.{ℕ, _<_, _≤_}
 use mathlib.Core.Path.{_≡_, refl, sym, ap, _∙_}
 use mathlib.Core.Bool.{Bool, true, false, cond, not, _&&_, _||_}
 use mathlib.Core.List.{List}
+use native.Mathlib.Omega.{arith}
 use lib.Dec.{ltb, leb, eqb}
 use borrow.Author.Tests.{lt-ltb, le-ltb, le-leb, lt-leb, eq-eqb, ne-eqb}
 use Rattle.answer.specs.Answer.{numberOf}
-use Rattle.answer.specs.declared.Code.the-variants.{Einval, Enospc, Enoent}
+use Rattle.answer.specs.declared.Code.the-variants.{Ok, Einval, Enospc, Enoent}
 use Rattle.mem_domain.specs.Partition.{empty, endOf, isValid, overlapOf, isFree}
 use Rattle.mem_domain.specs.Domain.{slotAt, freeAt, clashes, crossed, addable, lowestFree, hasFree, lowestWindow, hasWindow, refused, changedAt, added, removed, gotNothing, gotSlot, gotten}
 use Rattle.mem_domain.specs.declared.MemPartition.{MemPartition}
@@ -26,6 +27,19 @@ module _ (d : MemDomain) where
     unfolding added
     added-ok e f = rw (e, f)
 
+    -- an OK says that the window was addable and a slot free
+    accepts : (a f : Bool) → addable (d .partitions) p ≡ a → hasFree (d .partitions) ≡ f → added d p .code ≡ numberOf Ok
+        → (addable (d .partitions) p ≡ true) × (hasFree (d .partitions) ≡ true)
+    accepts true true e g h = (e, g)
+    accepts true false e g h = absurd (omega (arith, ap (λ r. r .code) (added-full e g)))
+    accepts false f e g h = absurd (omega (arith, ap (λ r. r .code) (added-bad e)))
+
+    pub add-accepts : added d p .code ≡ numberOf Ok → (addable (d .partitions) p ≡ true) × (hasFree (d .partitions) ≡ true)
+    add-accepts h = accepts (addable (d .partitions) p) (hasFree (d .partitions)) refl refl h
+
+    pub add-stores : added d p .code ≡ numberOf Ok → added d p ≡ changedAt (d .partitions) (lowestFree (d .partitions)) p
+    add-stores h = let (e, f) = add-accepts h in added-ok e f
+
   module _ (start size : ℕ) where
     pub removed-zero : eqb size 0 ≡ true → removed d start size ≡ refused (numberOf Enoent) d
     unfolding removed
@@ -42,6 +56,19 @@ module _ (d : MemDomain) where
     pub removed-ok : eqb size 0 ≡ false → hasWindow (d .partitions) start size ≡ true → removed d start size ≡ changedAt (d .partitions) (lowestWindow (d .partitions) start size) empty
     unfolding removed
     removed-ok e f = rw (e, f)
+
+    matched : (z h : Bool) → eqb size 0 ≡ z → hasWindow (d .partitions) start size ≡ h → removed d start size .code ≡ numberOf Ok
+        → (eqb size 0 ≡ false) × (hasWindow (d .partitions) start size ≡ true)
+    matched true h e f g = absurd (omega (arith, ap (λ r. r .code) (removed-zero e)))
+    matched false false e f g = absurd (omega (arith, ap (λ r. r .code) (removed-none f)))
+    matched false true e f g = (e, f)
+
+    pub remove-matches : removed d start size .code ≡ numberOf Ok → (eqb size 0 ≡ false) × (hasWindow (d .partitions) start size ≡ true)
+    remove-matches g = matched (eqb size 0) (hasWindow (d .partitions) start size) refl refl g
+
+    pub remove-frees : removed d start size .code ≡ numberOf Ok
+        → removed d start size ≡ changedAt (d .partitions) (lowestWindow (d .partitions) start size) empty
+    remove-frees g = let (e, f) = remove-matches g in removed-ok e f
 
   module _ (k : ℕ) where
     pub gotten-out : 16 ≤ k → gotten d k ≡ gotNothing (numberOf Einval)

@@ -1,4 +1,7 @@
-pub mod Scan
+pub mod Unique
 pub mod Tests
-pub mod Domain
+pub mod Scan
 pub mod Partition
+pub mod Domain
+pub mod Slots
+pub mod Upstream

@@ -127,6 +127,21 @@ module _ (f : ℕ → Bool) where
   count-le zero = omega (arith, count-none)
   count-le (suc n) = count-turn (f n) n refl (count-le n)
 
+  -- all of them pass; one of them does not
+  pub count-all : (n : ℕ) → ((k : ℕ) → k < n → f k ≡ true) → countTo f n ≡ n
+  count-all zero e = count-none
+  count-all (suc n) e = rw (← add-one n) (omega (arith, count-hit n (e n (le-refl _)), count-all n (λ k l. e k (omega arith))))
+
+  pub count-lack : (n k : ℕ) → k < n → f k ≡ false → countTo f n < n
+  count-lack zero k l e = absurd (not-suc-le-zero l)
+  count-lack (suc n) k l e =
+      ⊎-elim (λ (h : k ≡ n). rw (← add-one n) (omega (arith, count-miss n (rw h at e), count-le n)))
+      (λ (h : k < n). lack (f n) n refl (count-lack n k h e)) (eq-or-lt-of-le (le-of-suc-le-suc l))
+    where
+      lack : (b : Bool) (m : ℕ) → f m ≡ b → countTo f m < m → countTo f (suc m) < suc m
+      lack true m d h = rw (← add-one m) (omega (arith, count-hit m d))
+      lack false m d h = rw (← add-one m) (omega (arith, count-miss m d))
+
 -- tests that agree below n find and count alike
 pub lowest-same : (f g : ℕ → Bool) (n : ℕ) → ((k : ℕ) → k < n → f k ≡ g k) → lowest f n ≡ lowest g n
 lowest-same f g n e =

@@ -1,3 +1,4 @@
 pub mod Scan
 pub mod Partition
 pub mod Domain
+pub mod Upstream
