@@ -5,3 +5,4 @@ pub mod Partition
 pub mod Domain
 pub mod Slots
 pub mod Upstream
+pub mod Cases

@@ -1,10 +1,11 @@
 -- Laws of the slots: what the lowest free slot and the lowest match are, and what one changed slot does to the whole.
 use Prim.Native.Nat.{ℕ, _+_, _≤_, _<_}
 use mathlib.Core.Path.{_≡_, refl, sym, ap, ap₂, _∙_}
-use mathlib.Core.Bool.{Bool, true, false, not, _&&_, _||_, or-true, or-false}
+use mathlib.Core.Bool.{Bool, true, false, not, _&&_, _||_, or-true, or-false, true≢false}
 use mathlib.Core.List.{List}
 use mathlib.Core.Logic.{by-cases}
 use native.Mathlib.Decide.{ℕ-discrete}
+use native.Mathlib.Omega.{arith}
 use lib.Dec.{ltb, eqb}
 use lib.ListN.{length, set}
 use lib.Seq.{getD-set-same, getD-set-other}
@@ -14,8 +15,8 @@ use Rattle.mem_domain.specs.Domain.{slotAt, freeAt, activeCount, clashAt
 use Rattle.mem_domain.specs.declared.MemPartition.{MemPartition}
 use Rattle.mem_domain.specs.Scan.{anyTo}
 use Rattle.mem_domain.proofs.Tests.{and-left, and-right}
-use Rattle.mem_domain.proofs.Partition.{active-holds}
-use Rattle.mem_domain.proofs.Scan.{lowest-hit, lowest-is, any-at, any-none, any-miss, any-hit, count-gain, count-le, count-all, count-lack, any-same}
+use Rattle.mem_domain.proofs.Partition.{active-holds, holds-at, share-overlap, size-active}
+use Rattle.mem_domain.proofs.Scan.{lowest-hit, lowest-is, any-at, any-none, any-miss, any-hit, count-gain, count-le, count-all, count-lack, count-same, any-same}
 
 module _ (l : List MemPartition) where
   -- the lowest free slot is below 16, is free, and none before it is
@@ -123,3 +124,38 @@ module _ (l : List MemPartition) where
 
       pub contains-set : containsAddr (set l k p) a ≡ (containsAddr l a || holds p a)
       contains-set = grown (holds p a) refl
+
+    -- a window that no active slot overlaps is found again where it was put, and nowhere before
+    module _ (b : k < 16) (h : k < length l) (z : 0 < p .size)
+        (apart : (j : ℕ) → j < 16 → isActive (slotAt l j) ≡ true → overlapOf p (slotAt l j) ≡ false) where
+      window-self : isWindow (p .start) (p .size) p ≡ true
+      unfolding isWindow
+      window-self = rw (eq-eqb (p .start) (p .start) refl, eq-eqb (p .size) (p .size) refl)
+
+      not-before : (j : ℕ) → j < 16 → (x : Bool) → windowAt l (p .start) (p .size) j ≡ x → windowAt l (p .start) (p .size) j ≡ false
+      unfolding isWindow
+      not-before j g false e = e
+      not-before j g true e =
+          let q = slotAt l j in
+          let s : q .start ≡ p .start = eqb-true (q .start) (p .start) (and-left (eqb (q .start) (p .start)) (eqb (q .size) (p .size)) e) in
+          let n : q .size ≡ p .size = eqb-true (q .size) (p .size) (and-right (eqb (q .start) (p .start)) (eqb (q .size) (p .size)) e) in
+          absurd
+          (true≢false
+          (sym (share-overlap p q (p .start) (holds-at p (p .start) (omega arith) (omega arith)) (holds-at q (p .start) (omega arith) (omega arith)))
+          ∙ apart j g (size-active q (omega arith))))
+
+      pub window-again : lowestWindow (set l k p) (p .start) (p .size) ≡ k
+      unfolding lowestWindow
+      window-again =
+          lowest-is (windowAt (set l k p) (p .start) (p .size)) 16 k b (ap (isWindow (p .start) (p .size)) (slot-same h) ∙ window-self)
+          (λ j g.
+          ap (isWindow (p .start) (p .size)) (slot-other j (λ (i : j ≡ k). omega arith))
+          ∙ not-before j (omega arith) (windowAt l (p .start) (p .size) j) refl)
+
+    -- a free slot made all zero changes no count
+    pub active-kept : k < 16 → k < length l → isFree (slotAt l k) ≡ true → isFree p ≡ true → activeCount (set l k p) ≡ activeCount l
+    unfolding activeCount
+    active-kept b h e f =
+        count-same (λ j. isActive (slotAt (set l k p) j)) (λ j. isActive (slotAt l j)) 16
+        (λ j _.
+        by-cases (ℕ-discrete j k) (λ (i : j ≡ k). rw i (ap isActive (slot-same h) ∙ ap not (f ∙ sym e))) (λ n. ap isActive (slot-other j n)))
