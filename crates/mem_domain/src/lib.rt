@@ -51,10 +51,10 @@ impl MemPartition {
     pub fn is_valid(self) -> bool
         ensures { λ r. ⌜ r ≡ isValid self ⌝ }
     {
-        if self.size == 0 {
-            return false;
+        if self.size > 0 {
+            return self.end_u64() <= 4294967295;
         }
-        self.end_u64() <= 4294967295
+        false
     }
 
     pub fn overlaps(self, other: MemPartition) -> bool
@@ -120,14 +120,15 @@ impl MemDomain {
     pub fn add_partition(self, part: MemPartition) -> Changed
         ensures { λ r. ⌜ r ≡ added self part ⌝ }
     {
-        if !self.check_add_partition(part) {
+        let ok = self.check_add_partition(part);
+        let k = self.first_free();
+        if !ok {
             return self.refuse(answer::EINVAL);
         }
-        let k = self.first_free();
-        if k < SLOTS {
-            return self.put(k, part);
+        if k >= SLOTS {
+            return self.refuse(answer::ENOSPC);
         }
-        self.refuse(answer::ENOSPC)
+        self.put(k, part)
     }
 
     pub fn remove_partition(self, start: u32, size: u32) -> Changed
@@ -136,16 +137,16 @@ impl MemDomain {
         if size == 0 {
             return self.refuse(answer::ENOENT);
         }
-        let k = self.first_window(start, size);
-        if k < SLOTS {
-            let empty = MemPartition {
-                start: 0,
-                size: 0,
-                attr: 0,
-            };
-            return self.put(k, empty);
+        let at = self.first_window(start, size);
+        if at >= SLOTS {
+            return self.refuse(answer::ENOENT);
         }
-        self.refuse(answer::ENOENT)
+        let empty = MemPartition {
+            start: 0,
+            size: 0,
+            attr: 0,
+        };
+        self.put(at, empty)
     }
 
     pub fn num_partitions_get(self) -> u32
@@ -161,15 +162,15 @@ impl MemDomain {
             return got_nothing(answer::EINVAL);
         }
         let k = idx as usize;
-        let p = self.partitions[k];
-        if p.size == 0 {
+        let slot = self.partitions[k];
+        if slot.size == 0 {
             return got_nothing(answer::ENOENT);
         }
         Got {
             code: answer::OK,
-            start: p.start,
-            size: p.size,
-            attr: p.attr,
+            start: slot.start,
+            size: slot.size,
+            attr: slot.attr,
         }
     }
 
@@ -221,29 +222,29 @@ impl MemDomain {
     fn first_free(self) -> usize
         ensures { λ r. ⌜ r ≡ lowestFree (self .partitions) ⌝ }
     {
-        let mut k = 0;
-        while k < SLOTS {
-            let p = self.partitions[k];
+        let mut slot = 0;
+        while slot < SLOTS {
+            let p = self.partitions[slot];
             if p.size == 0 {
-                return k;
+                return slot;
             }
-            k += 1;
+            slot += 1;
         }
-        k
+        slot
     }
 
     fn first_window(self, start: u32, size: u32) -> usize
         ensures { λ r. ⌜ r ≡ lowestWindow (self .partitions) start size ⌝ }
     {
-        let mut k = 0;
-        while k < SLOTS {
-            let p = self.partitions[k];
+        let mut at = 0;
+        while at < SLOTS {
+            let p = self.partitions[at];
             if p.is_window(start, size) {
-                return k;
+                return at;
             }
-            k += 1;
+            at += 1;
         }
-        k
+        at
     }
 
     fn count_active(self) -> u32
@@ -262,16 +263,17 @@ impl MemDomain {
     }
 
     // Slot k becomes p, and the count is worked out anew, whatever it was.
-    fn put(mut self, k: usize, p: MemPartition) -> Changed
+    fn put(self, k: usize, p: MemPartition) -> Changed
         requires { ⌜ k < 16 ⌝ }
         ensures { λ r. ⌜ r ≡ changedAt (self .partitions) k p ⌝ }
     {
-        self.partitions[k] = p;
-        self.num_partitions = self.count_active();
+        let mut next = self;
+        next.partitions[k] = p;
+        next.num_partitions = next.count_active();
         Changed {
             code: answer::OK,
             value: k as u32,
-            domain: self,
+            domain: next,
         }
     }
 

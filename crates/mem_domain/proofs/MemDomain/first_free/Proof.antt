@@ -12,10 +12,10 @@ use Rattle.mem_domain.proofs.MemDomain.first_free.Reads as reads
 use Rattle.mem_domain.proofs.MemDomain.first_free.Lts as lts
 
 abbrev Inv-loop : tie.InvT-loop
-Inv-loop self k₀ k = (k ≤ 16) × (lowest (freeAt (self .partitions)) 16 ≡ firstFrom (freeAt (self .partitions)) k (16 - k))
+Inv-loop self slot₀ slot = (slot ≤ 16) × (lowest (freeAt (self .partitions)) 16 ≡ firstFrom (freeAt (self .partitions)) slot (16 - slot))
 
 abbrev μ-loop : tie.MeasureT-loop
-μ-loop self k₀ k = 16 - k
+μ-loop self slot₀ slot = 16 - slot
 
 -- src/lib.rt:221:9
 loop-holds : tie.Need-loop-holds Inv-loop μ-loop
@@ -35,8 +35,8 @@ unfolding lowestFree
 returns c = sym ((c .before .before .before .before .loop .inv .1) ∙ turn-hit _ _ 16 (c .before .before .before .loop-test .taken) (eq-eqb _ _ (c .if1 .taken)))
 
 -- src/lib.rt:226:13
-add-k : tie.Need-add-k Inv-loop μ-loop
-add-k c = search needs
+add-slot : tie.Need-add-slot Inv-loop μ-loop
+add-slot c = search needs
 
 -- src/lib.rt:221:9
 loop-less : tie.Need-loop-less Inv-loop μ-loop
@@ -61,7 +61,7 @@ first-free-spec =
     mul-p
     element-copy-out-p
     returns
-    add-k
+    add-slot
     loop-less
     loop-again
     returns-2)

@@ -13,10 +13,10 @@ use Rattle.mem_domain.proofs.MemDomain.first_window.Lts as lts
 use Rattle.mem_domain.proofs.MemPartition.is_window.Reads as is-window-reads
 
 abbrev Inv-loop : tie.InvT-loop
-Inv-loop start size self k₀ k = (k ≤ 16) × (lowest (windowAt (self .partitions) start size) 16 ≡ firstFrom (windowAt (self .partitions) start size) k (16 - k))
+Inv-loop start size self at₀ at = (at ≤ 16) × (lowest (windowAt (self .partitions) start size) 16 ≡ firstFrom (windowAt (self .partitions) start size) at (16 - at))
 
 abbrev μ-loop : tie.MeasureT-loop
-μ-loop start size self k₀ k = 16 - k
+μ-loop start size self at₀ at = 16 - at
 
 -- src/lib.rt:235:9
 loop-holds : tie.Need-loop-holds Inv-loop μ-loop
@@ -40,8 +40,8 @@ unfolding lowestWindow
 returns c = sym ((c .before .before .before .before .loop .inv .1) ∙ turn-hit _ _ 16 (c .before .before .before .loop-test .taken) (sym (c .before .is-window .ensures) ∙ (c .if1 .taken)))
 
 -- src/lib.rt:240:13
-add-k : tie.Need-add-k Inv-loop μ-loop
-add-k c = search needs
+add-at : tie.Need-add-at Inv-loop μ-loop
+add-at c = search needs
 
 -- src/lib.rt:235:9
 loop-less : tie.Need-loop-less Inv-loop μ-loop
@@ -67,7 +67,7 @@ first-window-spec =
     element-copy-out-p
     is-window-requires
     returns
-    add-k
+    add-at
     loop-less
     loop-again
     returns-2)

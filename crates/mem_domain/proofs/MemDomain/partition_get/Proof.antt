@@ -17,12 +17,12 @@ returns : tie.Need-returns
 returns c = (c .got-nothing .ensures) ∙ sym (gotten-out _ _ (c .before .if1 .taken))
 
 -- src/lib.rt:165:17
-mul-p : tie.Need-mul-p
-mul-p c = search needs
+mul-slot : tie.Need-mul-slot
+mul-slot c = search needs
 
 -- src/lib.rt:165:17
-element-copy-out-p : tie.Need-element-copy-out-p
-element-copy-out-p c = search needs
+element-copy-out-slot : tie.Need-element-copy-out-slot
+element-copy-out-slot c = search needs
 
 -- src/lib.rt:167:13
 got-nothing-requires-2 : tie.Need-got-nothing-requires-2
@@ -42,8 +42,8 @@ partition-get-spec =
     (tie.spec
     got-nothing-requires
     returns
-    mul-p
-    element-copy-out-p
+    mul-slot
+    element-copy-out-slot
     got-nothing-requires-2
     returns-2
     returns-3)
