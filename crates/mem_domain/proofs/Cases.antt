@@ -1,16 +1,15 @@
 -- Document 01's cases, and what an OK add means for slots and addresses.
 use Prim.Native.Nat.{ℕ, _<_}
-use mathlib.Core.Path.{_≡_, refl, sym, ap, _∙_}
-use mathlib.Core.Bool.{Bool, true, false, not, _||_, true≢false}
-use mathlib.Core.List.{List}
 use native.Mathlib.Decide.{ℕ-discrete}
 use native.Mathlib.Omega.{arith}
+use mathlib.Core.Path.{_≡_, refl, sym, ap, _∙_}
+use mathlib.Core.Bool.{true, false, _||_, true≢false}
 use lib.ListN.{length, set}
 use borrow.Author.Tests.{ne-eqb}
 use Rattle.answer.specs.Answer.{numberOf}
 use Rattle.answer.specs.declared.Code.the-variants.{Ok, Enoent}
-use Rattle.mem_domain.specs.Partition.{isValid, overlapOf, isFree, isActive, holds}
-use Rattle.mem_domain.specs.Domain.{slotAt, lowestFree, hasFree, addable, containsAddr, refused, changedAt, added, removed, gotSlot, gotten}
+use Rattle.mem_domain.specs.Partition.{isValid, isFree, holds}
+use Rattle.mem_domain.specs.Domain.{slotAt, lowestFree, containsAddr, refused, changedAt, added, removed, gotSlot, gotten}
 use Rattle.mem_domain.specs.declared.MemPartition.{MemPartition}
 use Rattle.mem_domain.specs.declared.MemDomain.{MemDomain}
 use Rattle.mem_domain.proofs.Partition.{valid-size, share-overlap, holds-active}

@@ -1,14 +1,14 @@
 -- The definitions of add, remove and get, case by case.
 use Prim.Native.Nat.{ℕ, _<_, _≤_}
-use mathlib.Core.Path.{_≡_, refl, sym, ap, _∙_}
-use mathlib.Core.Bool.{Bool, true, false, cond, not, _&&_, _||_}
-use mathlib.Core.List.{List}
 use native.Mathlib.Omega.{arith}
-use lib.Dec.{ltb, leb, eqb}
-use borrow.Author.Tests.{lt-ltb, le-ltb, le-leb, lt-leb, eq-eqb, ne-eqb}
+use mathlib.Core.Path.{_≡_, refl, ap}
+use mathlib.Core.Bool.{Bool, true, false, not, _||_}
+use mathlib.Core.List.{List}
+use lib.Dec.{ltb, eqb}
+use borrow.Author.Tests.{le-leb, lt-leb}
 use Rattle.answer.specs.Answer.{numberOf}
 use Rattle.answer.specs.declared.Code.the-variants.{Ok, Einval, Enospc, Enoent}
-use Rattle.mem_domain.specs.Partition.{empty, endOf, isValid, overlapOf, isFree}
+use Rattle.mem_domain.specs.Partition.{empty, endOf, isValid, overlapOf}
 use Rattle.mem_domain.specs.Domain.{slotAt, freeAt, clashes, crossed, addable, lowestFree, hasFree, lowestWindow, hasWindow, refused, changedAt, added, removed, gotNothing, gotSlot, gotten}
 use Rattle.mem_domain.specs.declared.MemPartition.{MemPartition}
 use Rattle.mem_domain.specs.declared.MemDomain.{MemDomain}

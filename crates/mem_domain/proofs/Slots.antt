@@ -1,22 +1,22 @@
 -- Laws of the slots: what the lowest free slot and the lowest match are, and what one changed slot does to the whole.
 use Prim.Native.Nat.{ℕ, _+_, _≤_, _<_}
-use mathlib.Core.Path.{_≡_, refl, sym, ap, ap₂, _∙_}
+use native.Mathlib.Decide.{ℕ-discrete}
+use native.Mathlib.Omega.{arith}
+use mathlib.Core.Path.{_≡_, refl, sym, ap, _∙_}
 use mathlib.Core.Bool.{Bool, true, false, not, _&&_, _||_, or-true, or-false, true≢false}
 use mathlib.Core.List.{List}
 use mathlib.Core.Logic.{by-cases}
-use native.Mathlib.Decide.{ℕ-discrete}
-use native.Mathlib.Omega.{arith}
-use lib.Dec.{ltb, eqb}
+use lib.Dec.{eqb}
 use lib.ListN.{length, set}
 use lib.Seq.{getD-set-same, getD-set-other}
-use borrow.Author.Tests.{ltb-true, eqb-true, eq-eqb, ne-eqb, not-true, not-false}
-use Rattle.mem_domain.specs.Partition.{empty, endOf, isValid, overlapOf, isFree, isActive, holds, isWindow}
+use borrow.Author.Tests.{ltb-true, eqb-true, eq-eqb, not-true}
+use Rattle.mem_domain.specs.Partition.{empty, isValid, overlapOf, isFree, isActive, holds, isWindow}
 use Rattle.mem_domain.specs.Domain.{slotAt, freeAt, activeCount, clashAt, clashes, addable, lowestFree, hasFree, windowAt, lowestWindow, hasWindow, holdsAt, containsAddr}
 use Rattle.mem_domain.specs.declared.MemPartition.{MemPartition}
 use Rattle.mem_domain.specs.Scan.{anyTo}
 use Rattle.mem_domain.proofs.Tests.{and-left, and-right}
 use Rattle.mem_domain.proofs.Partition.{active-holds, holds-at, share-overlap, size-active}
-use Rattle.mem_domain.proofs.Scan.{lowest-hit, lowest-is, any-at, any-none, any-miss, any-hit, count-gain, count-le, count-all, count-lack, count-same, any-same}
+use Rattle.mem_domain.proofs.Scan.{lowest-is, any-at, any-none, any-miss, any-hit, count-gain, count-le, count-all, count-lack, count-same, any-same}
 
 module _ (l : List MemPartition) where
   -- the lowest free slot is below 16, is free, and none before it is

@@ -1,6 +1,6 @@
 -- Tests in a row: what the first ones leave, once they are decided.
 use mathlib.Core.Path.{_≡_, refl}
-use mathlib.Core.Bool.{Bool, true, false, not, _&&_, _||_, false≢true}
+use mathlib.Core.Bool.{Bool, true, false, _&&_, false≢true}
 
 pub and-past : {a b c : Bool} → a ≡ true → c ≡ b → c ≡ (a && b)
 and-past p q = rw p q

@@ -1,30 +1,30 @@
 -- Upstream's clauses, each as a lemma over the definitions that the functions here are proved to equal (docs/CONTRACTS.md names them).
 -- `Inv` is upstream's inv; `Counted` says what upstream's type and comments mean: sixteen slots, and a count of the active ones.
 use Prim.Native.Nat.{ℕ, _+_, _≤_, _<_}
-use mathlib.Core.Path.{_≡_, refl, sym, ap, ap₂, _∙_}
-use mathlib.Core.Bool.{Bool, true, false, not, _&&_, true≢false}
-use mathlib.Core.List.{List}
-use mathlib.Core.Logic.{_⊎_, inl, inr, _↔_, ⊎-elim}
 use native.Mathlib.Decide.{ℕ-discrete}
 use native.Mathlib.Omega.{arith}
-use lib.Dec.{ltb, leb, eqb}
-use lib.ListN.{length, set, getD, length-set, length-replicate, getD-replicate}
+use mathlib.Core.Path.{_≡_, refl, sym, ap, ap₂, _∙_}
+use mathlib.Core.Bool.{Bool, true, false, not}
+use mathlib.Core.List.{List}
+use mathlib.Core.Logic.{_⊎_, inl, inr, _↔_, ⊎-elim}
+use lib.Dec.{ltb, eqb}
+use lib.ListN.{length, set, length-set, getD-replicate}
 use lib.Seq.{set-set, set-getD}
-use borrow.Author.Tests.{lt-ltb, le-leb, lt-leb, eq-eqb, ne-eqb, ltb-true, eqb-true, eqb-false, not-true, not-false}
+use borrow.Author.Tests.{lt-ltb, le-leb, eq-eqb, ne-eqb, ltb-true, eqb-true}
 use Rattle.answer.specs.Answer.{numberOf}
 use Rattle.answer.specs.declared.Code.the-variants.{Ok, Einval, Enospc, Enoent}
-use Rattle.mem_domain.specs.Partition.{empty, endOf, isValid, overlapOf, meets, isFree, isActive, holds, isWindow}
-use Rattle.mem_domain.specs.Domain.{slots, slotAt, activeCount, clashes, addable, freeAt, lowestFree, hasFree, windowAt, lowestWindow, hasWindow, holdsAt, containsAddr, noPartitions, refused, changedAt, added, removed, gotNothing, gotSlot, gotten}
+use Rattle.mem_domain.specs.Partition.{empty, endOf, isValid, overlapOf, meets, isFree, isActive, holds}
+use Rattle.mem_domain.specs.Domain.{slotAt, activeCount, addable, freeAt, lowestFree, hasFree, lowestWindow, hasWindow, holdsAt, containsAddr, noPartitions, refused, changedAt, added, removed, gotSlot, gotten}
 use Rattle.mem_domain.specs.Scan.{lowest}
 use Rattle.mem_domain.specs.Upstream.{Inv, Counted, Clean}
 use Rattle.mem_domain.specs.declared.MemPartition.{MemPartition}
 use Rattle.mem_domain.specs.declared.MemDomain.{MemDomain}
 use Rattle.mem_domain.specs.declared.Changed.{Changed}
 use Rattle.mem_domain.proofs.Tests.{and-left, and-right}
-use Rattle.mem_domain.proofs.Scan.{any-at, any-hit, lowest-is, count-none}
+use Rattle.mem_domain.proofs.Scan.{any-at, any-hit}
 use Rattle.mem_domain.proofs.Partition.{valid-size, valid-end, overlap-sym, apart-disjoint, active-size, size-active, active-holds}
 use Rattle.mem_domain.proofs.Domain.{added-bad, added-full, added-ok, add-accepts, add-stores, removed-zero, removed-none, removed-ok, remove-matches, remove-frees, gotten-out, gotten-free, gotten-ok, has-window}
-use Rattle.mem_domain.proofs.Slots.{free-below, free-free, window-below, window-start, window-size, addable-valid, addable-apart, active-le, free-active, full-active, slot-same, slot-other, active-gain, active-loss, active-kept, window-again}
+use Rattle.mem_domain.proofs.Slots.{free-below, free-free, window-below, window-size, addable-valid, addable-apart, active-le, free-active, full-active, slot-same, slot-other, active-gain, active-loss, active-kept, window-again}
 
 -- is_valid, overlaps_spec, end_spec: the tests are the statements
 pub valid-is : (p : MemPartition) → (isValid p ≡ true) ↔ ((0 < p .size) × (p .start + p .size ≤ 4294967295))

@@ -1,8 +1,7 @@
 -- Sixteen slots and a count, taken literally: document 01, "Domain". What is said of slots is said of a list of any length, so that it
 -- serves slots that come from a table too; a slot behind the list's end reads as all zero, and storing there changes nothing.
-use Prim.Native.Nat.{ℕ, _<_, _≤_}
-use mathlib.Core.Path.{_≡_}
-use mathlib.Core.Bool.{Bool, true, false, cond, not, _&&_, _||_}
+use Prim.Native.Nat.{ℕ}
+use mathlib.Core.Bool.{Bool, cond, not, _&&_, _||_}
 use mathlib.Core.List.{List}
 use lib.Dec.{leb, eqb}
 use lib.ListN.{getD, set, replicate}

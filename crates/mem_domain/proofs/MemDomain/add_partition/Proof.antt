@@ -1,45 +1,31 @@
-use Rattle.mem_domain.proofs.Domain.{has-free, added-bad, added-full, added-ok}
-use mathlib.Core.Path.{_≡_, refl, sym, ap, _∙_}
+use mathlib.Core.Path.{sym, _∙_}
 use borrow.Author.Tests.{lt-ltb, le-ltb, not-true, not-false}
 use borrow.Author.Needs.{needs}
+use Rattle.mem_domain.proofs.Domain.{has-free, added-bad, added-full, added-ok}
 use Rattle.mem_domain.proofs.MemDomain.add_partition.Statement.{statement}
 use Rattle.mem_domain.proofs.MemDomain.add_partition.Tie as tie
-use Rattle.mem_domain.proofs.MemDomain.add_partition.Reads as reads
-use Rattle.mem_domain.proofs.MemDomain.add_partition.Lts as lts
-use Rattle.mem_domain.proofs.MemDomain.check_add_partition.Reads as check-add-partition-reads
-use Rattle.mem_domain.proofs.MemDomain.first_free.Reads as first-free-reads
-use Rattle.mem_domain.proofs.MemDomain.put.Reads as put-reads
-use Rattle.mem_domain.proofs.MemDomain.refuse.Reads as refuse-reads
 
--- src/lib.rt:123:13
 check-add-partition-requires : tie.Need-check-add-partition-requires
 check-add-partition-requires c κs = search needs
 
--- src/lib.rt:124:13
 first-free-requires : tie.Need-first-free-requires
 first-free-requires c κs = search needs
 
--- src/lib.rt:126:13
 refuse-requires : tie.Need-refuse-requires
 refuse-requires c κs = search needs
 
--- src/lib.rt:126:13
 returns : tie.Need-returns
 returns c = (c .refuse .ensures) ∙ sym (added-bad _ _ (sym (c .before .before .before .check-add-partition .ensures) ∙ not-true _ (c .before .if1 .taken)))
 
--- src/lib.rt:129:13
 refuse-requires-2 : tie.Need-refuse-requires-2
 refuse-requires-2 c κs = search needs
 
--- src/lib.rt:129:13
 returns-2 : tie.Need-returns-2
 returns-2 c = (c .refuse2 .ensures) ∙ sym (added-full _ _ (sym (c .before .before .before .before .check-add-partition .ensures) ∙ not-false _ (c .before .before .if1 .left)) (has-free _ ∙ le-ltb _ _ (rw (c .before .before .before .first-free .ensures) at (c .before .if2 .taken))))
 
--- src/lib.rt:131:9
 put-requires : tie.Need-put-requires
 put-requires c κs = search needs
 
--- src/lib.rt:120:5
 returns-3 : tie.Need-returns-3
 returns-3 c = (c .put .ensures) ∙ rw (c .before .before .before .first-free .ensures) (sym (added-ok _ _ (sym (c .before .before .before .before .check-add-partition .ensures) ∙ not-false _ (c .before .before .if1 .left)) (has-free _ ∙ lt-ltb _ _ (rw (c .before .before .before .first-free .ensures) at (c .before .if2 .left)))))
 

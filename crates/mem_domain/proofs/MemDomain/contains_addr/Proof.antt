@@ -1,17 +1,11 @@
-use Rattle.mem_domain.proofs.Scan.{any-at, turn-none}
+use Prim.Native.Nat.{_-_, _≤_}
+use mathlib.Core.Path.{_≡_, refl, sym, _∙_}
+use borrow.Author.Needs.{needs}
 use Rattle.mem_domain.specs.Domain.{holdsAt, containsAddr}
 use Rattle.mem_domain.specs.Scan.{firstFrom, lowest}
-use Rattle.mem_domain.proofs.Scan.{turn-hit, turn-miss, turn-end}
-use mathlib.Core.Path.{_≡_, refl, sym, ap, _∙_}
-use Prim.Native.Nat.{_+_, _-_, _≤_, _<_}
-use borrow.Author.Needs.{needs}
-use native.Mathlib.Omega.{arith}
-use borrow.Author.Tests.{lt-ltb, le-ltb, le-leb, lt-leb, eq-eqb, ne-eqb}
+use Rattle.mem_domain.proofs.Scan.{any-at, turn-none, turn-miss}
 use Rattle.mem_domain.proofs.MemDomain.contains_addr.Statement.{statement}
 use Rattle.mem_domain.proofs.MemDomain.contains_addr.Tie as tie
-use Rattle.mem_domain.proofs.MemDomain.contains_addr.Reads as reads
-use Rattle.mem_domain.proofs.MemDomain.contains_addr.Lts as lts
-use Rattle.mem_domain.proofs.MemPartition.covers.Reads as covers-reads
 
 abbrev Inv-loop : tie.InvT-loop
 Inv-loop addr self k₀ k = (k ≤ 16) × (lowest (holdsAt (self .partitions) addr) 16 ≡ firstFrom (holdsAt (self .partitions) addr) k (16 - k))
@@ -19,40 +13,31 @@ Inv-loop addr self k₀ k = (k ≤ 16) × (lowest (holdsAt (self .partitions) ad
 abbrev μ-loop : tie.MeasureT-loop
 μ-loop addr self k₀ k = 16 - k
 
--- src/lib.rt:187:9
 loop-holds : tie.Need-loop-holds Inv-loop μ-loop
 loop-holds c = (search needs, refl)
 
--- src/lib.rt:188:21
 mul-p : tie.Need-mul-p Inv-loop μ-loop
 mul-p c = search needs
 
--- src/lib.rt:188:21
 element-copy-out-p : tie.Need-element-copy-out-p Inv-loop μ-loop
 element-copy-out-p c = search needs
 
--- src/lib.rt:189:16
 covers-requires : tie.Need-covers-requires Inv-loop μ-loop
 covers-requires c κs = search needs
 
--- src/lib.rt:190:17
 returns : tie.Need-returns Inv-loop μ-loop
 unfolding containsAddr
 returns c = sym (any-at _ 16 _ (c .before .before .before .loop-test .taken) (sym (c .before .covers .ensures) ∙ (c .if1 .taken)))
 
--- src/lib.rt:192:13
 add-k : tie.Need-add-k Inv-loop μ-loop
 add-k c = search needs
 
--- src/lib.rt:187:9
 loop-less : tie.Need-loop-less Inv-loop μ-loop
 loop-less c = search needs
 
--- src/lib.rt:187:9
 loop-again : tie.Need-loop-again Inv-loop μ-loop
 loop-again c = (search needs, (c .before .before .before .before .loop .inv .1) ∙ turn-miss _ _ 16 (c .before .before .before .loop-test .taken) (sym (c .before .covers .ensures) ∙ (c .if1 .left)))
 
--- src/lib.rt:183:5
 returns-2 : tie.Need-returns-2 Inv-loop μ-loop
 unfolding containsAddr
 returns-2 c = sym (turn-none _ _ 16 (c .loop-test .left) (c .before .loop .inv .1))

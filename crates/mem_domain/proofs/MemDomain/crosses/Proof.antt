@@ -1,15 +1,11 @@
+use Prim.Native.Nat.{_-_, _≤_}
+use mathlib.Core.Path.{_≡_, refl, sym, _∙_}
+use borrow.Author.Needs.{needs}
 use Rattle.mem_domain.specs.Domain.{crossedAt, crossed}
 use Rattle.mem_domain.specs.Scan.{firstFrom, lowest}
 use Rattle.mem_domain.proofs.Scan.{any-at, turn-miss, turn-none}
-use mathlib.Core.Path.{_≡_, refl, sym, ap, _∙_}
-use Prim.Native.Nat.{_+_, _-_, _≤_, _<_}
-use borrow.Author.Needs.{needs}
-use native.Mathlib.Omega.{arith}
 use Rattle.mem_domain.proofs.MemDomain.crosses.Statement.{statement}
 use Rattle.mem_domain.proofs.MemDomain.crosses.Tie as tie
-use Rattle.mem_domain.proofs.MemDomain.crosses.Reads as reads
-use Rattle.mem_domain.proofs.MemDomain.crosses.Lts as lts
-use Rattle.mem_domain.proofs.MemPartition.meets.Reads as meets-reads
 
 abbrev Inv-loop : tie.InvT-loop
 Inv-loop start end self k₀ k = (k ≤ 16) × (lowest (crossedAt (self .partitions) start end) 16 ≡ firstFrom (crossedAt (self .partitions) start end) k (16 - k))
@@ -17,40 +13,31 @@ Inv-loop start end self k₀ k = (k ≤ 16) × (lowest (crossedAt (self .partiti
 abbrev μ-loop : tie.MeasureT-loop
 μ-loop start end self k₀ k = 16 - k
 
--- src/lib.rt:211:9
 loop-holds : tie.Need-loop-holds Inv-loop μ-loop
 loop-holds c = (search needs, refl)
 
--- src/lib.rt:212:21
 mul-p : tie.Need-mul-p Inv-loop μ-loop
 mul-p c = search needs
 
--- src/lib.rt:212:21
 element-copy-out-p : tie.Need-element-copy-out-p Inv-loop μ-loop
 element-copy-out-p c = search needs
 
--- src/lib.rt:213:16
 meets-requires : tie.Need-meets-requires Inv-loop μ-loop
 meets-requires c κs = search needs
 
--- src/lib.rt:214:17
 returns : tie.Need-returns Inv-loop μ-loop
 unfolding crossed
 returns c = sym (any-at _ 16 _ (c .before .before .before .loop-test .taken) (sym (c .before .meets .ensures) ∙ (c .if1 .taken)))
 
--- src/lib.rt:216:13
 add-k : tie.Need-add-k Inv-loop μ-loop
 add-k c = search needs
 
--- src/lib.rt:211:9
 loop-less : tie.Need-loop-less Inv-loop μ-loop
 loop-less c = search needs
 
--- src/lib.rt:211:9
 loop-again : tie.Need-loop-again Inv-loop μ-loop
 loop-again c = (search needs, (c .before .before .before .before .loop .inv .1) ∙ turn-miss _ _ 16 (c .before .before .before .loop-test .taken) (sym (c .before .meets .ensures) ∙ (c .if1 .left)))
 
--- src/lib.rt:207:5
 returns-2 : tie.Need-returns-2 Inv-loop μ-loop
 unfolding crossed
 returns-2 c = sym (turn-none _ _ 16 (c .loop-test .left) (c .before .loop .inv .1))

@@ -1,15 +1,12 @@
-use borrow.Author.Tests.{lt-ltb, le-ltb, le-leb, lt-leb, eq-eqb, ne-eqb}
+use Prim.Native.Nat.{_-_, _≤_}
+use mathlib.Core.Path.{_≡_, refl, sym, _∙_}
+use borrow.Author.Tests.{eq-eqb, ne-eqb}
+use borrow.Author.Needs.{needs}
 use Rattle.mem_domain.specs.Scan.{firstFrom, lowest}
 use Rattle.mem_domain.specs.Domain.{freeAt, lowestFree}
 use Rattle.mem_domain.proofs.Scan.{turn-hit, turn-miss, turn-end}
-use mathlib.Core.Path.{_≡_, refl, sym, ap, _∙_}
-use Prim.Native.Nat.{_+_, _-_, _≤_, _<_}
-use borrow.Author.Needs.{needs}
-use native.Mathlib.Omega.{arith}
 use Rattle.mem_domain.proofs.MemDomain.first_free.Statement.{statement}
 use Rattle.mem_domain.proofs.MemDomain.first_free.Tie as tie
-use Rattle.mem_domain.proofs.MemDomain.first_free.Reads as reads
-use Rattle.mem_domain.proofs.MemDomain.first_free.Lts as lts
 
 abbrev Inv-loop : tie.InvT-loop
 Inv-loop self slot₀ slot = (slot ≤ 16) × (lowest (freeAt (self .partitions)) 16 ≡ firstFrom (freeAt (self .partitions)) slot (16 - slot))
@@ -17,36 +14,28 @@ Inv-loop self slot₀ slot = (slot ≤ 16) × (lowest (freeAt (self .partitions)
 abbrev μ-loop : tie.MeasureT-loop
 μ-loop self slot₀ slot = 16 - slot
 
--- src/lib.rt:221:9
 loop-holds : tie.Need-loop-holds Inv-loop μ-loop
 loop-holds c = (search needs, refl)
 
--- src/lib.rt:222:21
 mul-p : tie.Need-mul-p Inv-loop μ-loop
 mul-p c = search needs
 
--- src/lib.rt:222:21
 element-copy-out-p : tie.Need-element-copy-out-p Inv-loop μ-loop
 element-copy-out-p c = search needs
 
--- src/lib.rt:224:17
 returns : tie.Need-returns Inv-loop μ-loop
 unfolding lowestFree
 returns c = sym ((c .before .before .before .before .loop .inv .1) ∙ turn-hit _ _ 16 (c .before .before .before .loop-test .taken) (eq-eqb _ _ (c .if1 .taken)))
 
--- src/lib.rt:226:13
 add-slot : tie.Need-add-slot Inv-loop μ-loop
 add-slot c = search needs
 
--- src/lib.rt:221:9
 loop-less : tie.Need-loop-less Inv-loop μ-loop
 loop-less c = search needs
 
--- src/lib.rt:221:9
 loop-again : tie.Need-loop-again Inv-loop μ-loop
 loop-again c = (search needs, (c .before .before .before .before .loop .inv .1) ∙ turn-miss _ _ 16 (c .before .before .before .loop-test .taken) (ne-eqb _ _ (c .if1 .left)))
 
--- src/lib.rt:217:5
 returns-2 : tie.Need-returns-2 Inv-loop μ-loop
 unfolding lowestFree
 returns-2 c = sym ((c .before .loop .inv .1) ∙ turn-end _ _ 16 (c .loop-test .left))

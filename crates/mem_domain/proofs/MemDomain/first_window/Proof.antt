@@ -1,16 +1,11 @@
+use Prim.Native.Nat.{_-_, _≤_}
+use mathlib.Core.Path.{_≡_, refl, sym, _∙_}
+use borrow.Author.Needs.{needs}
 use Rattle.mem_domain.specs.Domain.{windowAt, lowestWindow}
 use Rattle.mem_domain.specs.Scan.{firstFrom, lowest}
 use Rattle.mem_domain.proofs.Scan.{turn-hit, turn-miss, turn-end}
-use mathlib.Core.Path.{_≡_, refl, sym, ap, _∙_}
-use Prim.Native.Nat.{_+_, _-_, _≤_, _<_}
-use borrow.Author.Needs.{needs}
-use native.Mathlib.Omega.{arith}
-use borrow.Author.Tests.{lt-ltb, le-ltb, le-leb, lt-leb, eq-eqb, ne-eqb}
 use Rattle.mem_domain.proofs.MemDomain.first_window.Statement.{statement}
 use Rattle.mem_domain.proofs.MemDomain.first_window.Tie as tie
-use Rattle.mem_domain.proofs.MemDomain.first_window.Reads as reads
-use Rattle.mem_domain.proofs.MemDomain.first_window.Lts as lts
-use Rattle.mem_domain.proofs.MemPartition.is_window.Reads as is-window-reads
 
 abbrev Inv-loop : tie.InvT-loop
 Inv-loop start size self at₀ at = (at ≤ 16) × (lowest (windowAt (self .partitions) start size) 16 ≡ firstFrom (windowAt (self .partitions) start size) at (16 - at))
@@ -18,40 +13,31 @@ Inv-loop start size self at₀ at = (at ≤ 16) × (lowest (windowAt (self .part
 abbrev μ-loop : tie.MeasureT-loop
 μ-loop start size self at₀ at = 16 - at
 
--- src/lib.rt:235:9
 loop-holds : tie.Need-loop-holds Inv-loop μ-loop
 loop-holds c = (search needs, refl)
 
--- src/lib.rt:236:21
 mul-p : tie.Need-mul-p Inv-loop μ-loop
 mul-p c = search needs
 
--- src/lib.rt:236:21
 element-copy-out-p : tie.Need-element-copy-out-p Inv-loop μ-loop
 element-copy-out-p c = search needs
 
--- src/lib.rt:237:16
 is-window-requires : tie.Need-is-window-requires Inv-loop μ-loop
 is-window-requires c κs = search needs
 
--- src/lib.rt:238:17
 returns : tie.Need-returns Inv-loop μ-loop
 unfolding lowestWindow
 returns c = sym ((c .before .before .before .before .loop .inv .1) ∙ turn-hit _ _ 16 (c .before .before .before .loop-test .taken) (sym (c .before .is-window .ensures) ∙ (c .if1 .taken)))
 
--- src/lib.rt:240:13
 add-at : tie.Need-add-at Inv-loop μ-loop
 add-at c = search needs
 
--- src/lib.rt:235:9
 loop-less : tie.Need-loop-less Inv-loop μ-loop
 loop-less c = search needs
 
--- src/lib.rt:235:9
 loop-again : tie.Need-loop-again Inv-loop μ-loop
 loop-again c = (search needs, (c .before .before .before .before .loop .inv .1) ∙ turn-miss _ _ 16 (c .before .before .before .loop-test .taken) (sym (c .before .is-window .ensures) ∙ (c .if1 .left)))
 
--- src/lib.rt:231:5
 returns-2 : tie.Need-returns-2 Inv-loop μ-loop
 unfolding lowestWindow
 returns-2 c = sym ((c .before .loop .inv .1) ∙ turn-end _ _ 16 (c .loop-test .left))

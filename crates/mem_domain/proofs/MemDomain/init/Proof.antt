@@ -2,10 +2,7 @@ use mathlib.Core.Path.{refl}
 use Rattle.mem_domain.specs.Domain.{noPartitions}
 use Rattle.mem_domain.proofs.MemDomain.init.Statement.{statement}
 use Rattle.mem_domain.proofs.MemDomain.init.Tie as tie
-use Rattle.mem_domain.proofs.MemDomain.init.Reads as reads
-use Rattle.mem_domain.proofs.MemDomain.init.Lts as lts
 
--- src/lib.rt:107:5
 returns : tie.Need-returns
 unfolding noPartitions
 returns c = refl

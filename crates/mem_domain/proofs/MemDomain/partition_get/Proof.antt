@@ -1,38 +1,28 @@
-use Rattle.mem_domain.proofs.Domain.{gotten-out, gotten-free, gotten-ok}
-use mathlib.Core.Path.{_≡_, refl, sym, ap, _∙_}
-use borrow.Author.Tests.{lt-ltb, le-ltb, le-leb, lt-leb, eq-eqb, ne-eqb}
+use mathlib.Core.Path.{sym, _∙_}
+use borrow.Author.Tests.{eq-eqb, ne-eqb}
 use borrow.Author.Needs.{needs}
+use Rattle.mem_domain.proofs.Domain.{gotten-out, gotten-free, gotten-ok}
 use Rattle.mem_domain.proofs.MemDomain.partition_get.Statement.{statement}
 use Rattle.mem_domain.proofs.MemDomain.partition_get.Tie as tie
-use Rattle.mem_domain.proofs.MemDomain.partition_get.Reads as reads
-use Rattle.mem_domain.proofs.MemDomain.partition_get.Lts as lts
-use Rattle.mem_domain.proofs.got_nothing.Reads as got-nothing-reads
 
--- src/lib.rt:162:13
 got-nothing-requires : tie.Need-got-nothing-requires
 got-nothing-requires c κs = search needs
 
--- src/lib.rt:162:13
 returns : tie.Need-returns
 returns c = (c .got-nothing .ensures) ∙ sym (gotten-out _ _ (c .before .if1 .taken))
 
--- src/lib.rt:165:17
 mul-slot : tie.Need-mul-slot
 mul-slot c = search needs
 
--- src/lib.rt:165:17
 element-copy-out-slot : tie.Need-element-copy-out-slot
 element-copy-out-slot c = search needs
 
--- src/lib.rt:167:13
 got-nothing-requires-2 : tie.Need-got-nothing-requires-2
 got-nothing-requires-2 c κs = search needs
 
--- src/lib.rt:167:13
 returns-2 : tie.Need-returns-2
 returns-2 c = (c .got-nothing2 .ensures) ∙ sym (gotten-free _ _ (c .before .before .before .before .if1 .left) (eq-eqb _ _ (c .before .if2 .taken)))
 
--- src/lib.rt:158:5
 returns-3 : tie.Need-returns-3
 returns-3 c = sym (gotten-ok _ _ (c .before .before .before .if1 .left) (ne-eqb _ _ (c .if2 .left)))
 

@@ -1,28 +1,20 @@
-use Rattle.mem_domain.specs.Domain.{changedAt}
 use borrow.Author.Needs.{needs}
+use Rattle.mem_domain.specs.Domain.{changedAt}
 use Rattle.mem_domain.proofs.MemDomain.put.Statement.{statement}
 use Rattle.mem_domain.proofs.MemDomain.put.Tie as tie
-use Rattle.mem_domain.proofs.MemDomain.put.Reads as reads
-use Rattle.mem_domain.proofs.MemDomain.put.Lts as lts
-use Rattle.mem_domain.proofs.MemDomain.count_active.Reads as count-active-reads
 
--- src/lib.rt:271:9
 mul-p : tie.Need-mul-p
 mul-p c = search needs
 
--- src/lib.rt:271:9
 element-set-from-p : tie.Need-element-set-from-p
 element-set-from-p c = search needs
 
--- src/lib.rt:272:31
 count-active-requires : tie.Need-count-active-requires
 count-active-requires c κs = search needs
 
--- src/lib.rt:275:20
 cast-t8 : tie.Need-cast-t8
 cast-t8 c = search needs
 
--- src/lib.rt:266:5
 returns : tie.Need-returns
 unfolding changedAt
 returns c = rw (c .count-active .ensures)

@@ -1,40 +1,28 @@
-use Rattle.mem_domain.proofs.Domain.{has-window, removed-zero, removed-none, removed-ok}
-use mathlib.Core.Path.{_≡_, refl, sym, ap, _∙_}
+use mathlib.Core.Path.{sym, _∙_}
 use borrow.Author.Tests.{lt-ltb, le-ltb, eq-eqb, ne-eqb}
 use borrow.Author.Needs.{needs}
+use Rattle.mem_domain.proofs.Domain.{has-window, removed-zero, removed-none, removed-ok}
 use Rattle.mem_domain.proofs.MemDomain.remove_partition.Statement.{statement}
 use Rattle.mem_domain.proofs.MemDomain.remove_partition.Tie as tie
-use Rattle.mem_domain.proofs.MemDomain.remove_partition.Reads as reads
-use Rattle.mem_domain.proofs.MemDomain.remove_partition.Lts as lts
-use Rattle.mem_domain.proofs.MemDomain.first_window.Reads as first-window-reads
-use Rattle.mem_domain.proofs.MemDomain.put.Reads as put-reads
-use Rattle.mem_domain.proofs.MemDomain.refuse.Reads as refuse-reads
 
--- src/lib.rt:138:13
 refuse-requires : tie.Need-refuse-requires
 refuse-requires c κs = search needs
 
--- src/lib.rt:138:13
 returns : tie.Need-returns
 returns c = (c .refuse .ensures) ∙ sym (removed-zero _ _ _ (eq-eqb _ _ (c .before .if1 .taken)))
 
--- src/lib.rt:140:13
 first-window-requires : tie.Need-first-window-requires
 first-window-requires c κs = search needs
 
--- src/lib.rt:142:13
 refuse-requires-2 : tie.Need-refuse-requires-2
 refuse-requires-2 c κs = search needs
 
--- src/lib.rt:142:13
 returns-2 : tie.Need-returns-2
 returns-2 c = (c .refuse2 .ensures) ∙ sym (removed-none _ _ _ (has-window _ _ _ ∙ le-ltb _ _ (rw (c .before .before .first-window .ensures) at (c .before .if2 .taken))))
 
--- src/lib.rt:149:9
 put-requires : tie.Need-put-requires
 put-requires c κs = search needs
 
--- src/lib.rt:134:5
 returns-3 : tie.Need-returns-3
 returns-3 c = (c .put .ensures) ∙ rw (c .before .before .first-window .ensures) (sym (removed-ok _ _ _ (ne-eqb _ _ (c .before .before .before .if1 .left)) (has-window _ _ _ ∙ lt-ltb _ _ (rw (c .before .before .first-window .ensures) at (c .before .if2 .left)))))
 

@@ -1,22 +1,16 @@
-use Rattle.mem_domain.specs.Partition.{isValid}
 use borrow.Author.Tests.{lt-ltb, le-ltb}
 use borrow.Author.Needs.{needs}
+use Rattle.mem_domain.specs.Partition.{isValid}
 use Rattle.mem_domain.proofs.MemPartition.is_valid.Statement.{statement}
 use Rattle.mem_domain.proofs.MemPartition.is_valid.Tie as tie
-use Rattle.mem_domain.proofs.MemPartition.is_valid.Reads as reads
-use Rattle.mem_domain.proofs.MemPartition.is_valid.Lts as lts
-use Rattle.mem_domain.proofs.MemPartition.end_u64.Reads as end-u64-reads
 
--- src/lib.rt:55:20
 end-u64-requires : tie.Need-end-u64-requires
 end-u64-requires c κs = search needs
 
--- src/lib.rt:55:13
 returns : tie.Need-returns
 unfolding isValid
 returns c = simp (lt-ltb _ _ (c .before .if1 .taken), (c .end-u64 .ensures))
 
--- src/lib.rt:51:5
 returns-2 : tie.Need-returns-2
 unfolding isValid
 returns-2 c = simp (le-ltb _ _ (c .if1 .left))

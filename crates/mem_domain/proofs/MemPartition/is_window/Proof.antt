@@ -1,16 +1,12 @@
+use Rattle.answer.specs.Tests.{tests}
 use Rattle.mem_domain.specs.Partition.{isWindow}
-use Rattle.answer.specs.Tests.{tests, via}
 use Rattle.mem_domain.proofs.MemPartition.is_window.Statement.{statement}
 use Rattle.mem_domain.proofs.MemPartition.is_window.Tie as tie
-use Rattle.mem_domain.proofs.MemPartition.is_window.Reads as reads
-use Rattle.mem_domain.proofs.MemPartition.is_window.Lts as lts
 
--- src/lib.rt:100:13
 returns : tie.Need-returns
 unfolding isWindow
 returns c = search tests
 
--- src/lib.rt:96:5
 returns-2 : tie.Need-returns-2
 unfolding isWindow
 returns-2 c = search tests
