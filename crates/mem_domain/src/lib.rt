@@ -45,7 +45,8 @@ impl MemPartition {
     pub fn end_u64(self) -> u64
         ensures { λ r. ⌜ r ≡ endOf self ⌝ }
     {
-        self.start as u64 + self.size as u64
+        let sum = self.start as u64 + self.size as u64;
+        sum
     }
 
     pub fn is_valid(self) -> bool
@@ -267,12 +268,18 @@ impl MemDomain {
         requires { ⌜ k < 16 ⌝ }
         ensures { λ r. ⌜ r ≡ changedAt (self .partitions) k p ⌝ }
     {
+        let stored = MemPartition {
+            start: p.start,
+            size: p.size,
+            attr: p.attr,
+        };
         let mut next = self;
-        next.partitions[k] = p;
+        next.partitions[k] = stored;
         next.num_partitions = next.count_active();
+        let value = k as u32;
         Changed {
             code: answer::OK,
-            value: k as u32,
+            value,
             domain: next,
         }
     }

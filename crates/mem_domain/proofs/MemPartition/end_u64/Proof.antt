@@ -1,0 +1,19 @@
+use mathlib.Core.Path.{refl}
+use borrow.Author.Needs.{needs}
+use Rattle.mem_domain.proofs.MemPartition.end_u64.Statement.{statement}
+use Rattle.mem_domain.proofs.MemPartition.end_u64.Tie as tie
+
+cast-sum : tie.Need-cast-sum
+cast-sum c = search needs
+
+cast-sum-2 : tie.Need-cast-sum-2
+cast-sum-2 c = search needs
+
+add-sum : tie.Need-add-sum
+add-sum c = search needs
+
+returns : tie.Need-returns
+returns c = refl
+
+pub end-u64-spec : {M : Type 1} → statement M
+end-u64-spec = tie.close (tie.spec cast-sum cast-sum-2 add-sum returns)
