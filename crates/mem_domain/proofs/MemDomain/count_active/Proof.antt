@@ -3,7 +3,6 @@ use native.Mathlib.Omega.{arith}
 use mathlib.Core.Bool.{not}
 use mathlib.Core.Logic.{inl, inr}
 use mathlib.Core.Path.{_≡_, sym, ap, _∙_}
-use borrow.Author.Needs.{needs}
 use borrow.Author.Tests.{eq-eqb, ne-eqb}
 use Rattle.mem_domain.specs.Partition.{isActive}
 use Rattle.mem_domain.specs.Domain.{activeTo, activeCount, slotAt}
@@ -18,25 +17,25 @@ abbrev μ-loop : tie.MeasureT-loop
 μ-loop self n₀ k₀ n k = 16 - k
 
 loop-holds : tie.Need-loop-holds Inv-loop μ-loop
-loop-holds c = (search needs, sym (count-none _))
+loop-holds c = (omega arith, sym (count-none _))
 
 mul-p : tie.Need-mul-p Inv-loop μ-loop
-mul-p c = search needs
+mul-p c = omega arith
 
 element-copy-out-p : tie.Need-element-copy-out-p Inv-loop μ-loop
-element-copy-out-p c = search needs
+element-copy-out-p c = omega arith
 
 add-n : tie.Need-add-n Inv-loop μ-loop
 add-n c = omega (arith, count-le (λ k. isActive (slotAt ((c .before .before .before .before .before .args .t1 .partitions)) k)) ((c .before .before .before .before .loop .k)))
 
 add-k : tie.Need-add-k Inv-loop μ-loop
-add-k c = search needs
+add-k c = omega arith
 
 loop-less : tie.Need-loop-less Inv-loop μ-loop
-loop-less c = search needs
+loop-less c = omega arith
 
 loop-again : tie.Need-loop-again Inv-loop μ-loop
-loop-again c = (search needs, elim (c .if1 .came) [ inl w ↦ w .1 ∙ ap (λ n. n + 1) (c .before .before .before .before .loop .inv .1) ∙ sym (count-hit _ _ (ap not (ne-eqb _ _ (w .0 .taken)))) | inr w ↦ w .1 ∙ (c .before .before .before .before .loop .inv .1) ∙ sym (count-miss _ _ (ap not (eq-eqb _ _ (w .0 .left)))) ])
+loop-again c = (omega arith, elim (c .if1 .came) [ inl w ↦ w .1 ∙ ap (λ n. n + 1) (c .before .before .before .before .loop .inv .1) ∙ sym (count-hit _ _ (ap not (ne-eqb _ _ (w .0 .taken)))) | inr w ↦ w .1 ∙ (c .before .before .before .before .loop .inv .1) ∙ sym (count-miss _ _ (ap not (eq-eqb _ _ (w .0 .left)))) ])
 
 returns : tie.Need-returns Inv-loop μ-loop
 unfolding activeCount

@@ -1,6 +1,6 @@
 use Prim.Native.Nat.{_-_, _≤_}
+use native.Mathlib.Omega.{arith}
 use mathlib.Core.Path.{_≡_, refl, sym, _∙_}
-use borrow.Author.Needs.{needs}
 use Rattle.mem_domain.specs.Domain.{crossedAt, crossed}
 use Rattle.mem_domain.specs.Scan.{firstFrom, lowest}
 use Rattle.mem_domain.proofs.Scan.{any-at, turn-miss, turn-none}
@@ -14,29 +14,29 @@ abbrev μ-loop : tie.MeasureT-loop
 μ-loop start end self k₀ k = 16 - k
 
 loop-holds : tie.Need-loop-holds Inv-loop μ-loop
-loop-holds c = (search needs, refl)
+loop-holds c = (omega arith, refl)
 
 mul-p : tie.Need-mul-p Inv-loop μ-loop
-mul-p c = search needs
+mul-p c = omega arith
 
 element-copy-out-p : tie.Need-element-copy-out-p Inv-loop μ-loop
-element-copy-out-p c = search needs
+element-copy-out-p c = omega arith
 
 meets-requires : tie.Need-meets-requires Inv-loop μ-loop
-meets-requires c κs = search needs
+meets-requires c κs = tt
 
 returns : tie.Need-returns Inv-loop μ-loop
 unfolding crossed
 returns c = sym (any-at _ 16 _ (c .before .before .before .loop-test .taken) (sym (c .before .meets .ensures) ∙ (c .if1 .taken)))
 
 add-k : tie.Need-add-k Inv-loop μ-loop
-add-k c = search needs
+add-k c = omega arith
 
 loop-less : tie.Need-loop-less Inv-loop μ-loop
-loop-less c = search needs
+loop-less c = omega arith
 
 loop-again : tie.Need-loop-again Inv-loop μ-loop
-loop-again c = (search needs, (c .before .before .before .before .loop .inv .1) ∙ turn-miss _ _ 16 (c .before .before .before .loop-test .taken) (sym (c .before .meets .ensures) ∙ (c .if1 .left)))
+loop-again c = (omega arith, (c .before .before .before .before .loop .inv .1) ∙ turn-miss _ _ 16 (c .before .before .before .loop-test .taken) (sym (c .before .meets .ensures) ∙ (c .if1 .left)))
 
 returns-2 : tie.Need-returns-2 Inv-loop μ-loop
 unfolding crossed

@@ -1,7 +1,7 @@
 use Prim.Native.Nat.{_-_, _≤_}
+use native.Mathlib.Omega.{arith}
 use mathlib.Core.Path.{_≡_, refl, sym, _∙_}
 use borrow.Author.Tests.{eq-eqb, ne-eqb}
-use borrow.Author.Needs.{needs}
 use Rattle.mem_domain.specs.Scan.{firstFrom, lowest}
 use Rattle.mem_domain.specs.Domain.{freeAt, lowestFree}
 use Rattle.mem_domain.proofs.Scan.{turn-hit, turn-miss, turn-end}
@@ -15,26 +15,26 @@ abbrev μ-loop : tie.MeasureT-loop
 μ-loop self slot₀ slot = 16 - slot
 
 loop-holds : tie.Need-loop-holds Inv-loop μ-loop
-loop-holds c = (search needs, refl)
+loop-holds c = (omega arith, refl)
 
 mul-p : tie.Need-mul-p Inv-loop μ-loop
-mul-p c = search needs
+mul-p c = omega arith
 
 element-copy-out-p : tie.Need-element-copy-out-p Inv-loop μ-loop
-element-copy-out-p c = search needs
+element-copy-out-p c = omega arith
 
 returns : tie.Need-returns Inv-loop μ-loop
 unfolding lowestFree
 returns c = sym ((c .before .before .before .before .loop .inv .1) ∙ turn-hit _ _ 16 (c .before .before .before .loop-test .taken) (eq-eqb _ _ (c .if1 .taken)))
 
 add-slot : tie.Need-add-slot Inv-loop μ-loop
-add-slot c = search needs
+add-slot c = omega arith
 
 loop-less : tie.Need-loop-less Inv-loop μ-loop
-loop-less c = search needs
+loop-less c = omega arith
 
 loop-again : tie.Need-loop-again Inv-loop μ-loop
-loop-again c = (search needs, (c .before .before .before .before .loop .inv .1) ∙ turn-miss _ _ 16 (c .before .before .before .loop-test .taken) (ne-eqb _ _ (c .if1 .left)))
+loop-again c = (omega arith, (c .before .before .before .before .loop .inv .1) ∙ turn-miss _ _ 16 (c .before .before .before .loop-test .taken) (ne-eqb _ _ (c .if1 .left)))
 
 returns-2 : tie.Need-returns-2 Inv-loop μ-loop
 unfolding lowestFree

@@ -1,12 +1,11 @@
 use mathlib.Core.Path.{sym, ap, _∙_}
 use lib.Dec.{ltb}
-use borrow.Author.Needs.{needs}
 use Rattle.mem_domain.proofs.Domain.{has-free}
 use Rattle.mem_domain.proofs.MemDomain.has_free_slot.Statement.{statement}
 use Rattle.mem_domain.proofs.MemDomain.has_free_slot.Tie as tie
 
 first-free-requires : tie.Need-first-free-requires
-first-free-requires c κs = search needs
+first-free-requires c κs = tt
 
 returns : tie.Need-returns
 returns c = ap (λ k. ltb k 16) (c .first-free .ensures) ∙ sym (has-free _)

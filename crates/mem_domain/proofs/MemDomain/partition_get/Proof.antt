@@ -1,3 +1,4 @@
+use native.Mathlib.Omega.{arith}
 use mathlib.Core.Path.{sym, _∙_}
 use borrow.Author.Tests.{eq-eqb, ne-eqb}
 use borrow.Author.Needs.{needs}
@@ -6,16 +7,16 @@ use Rattle.mem_domain.proofs.MemDomain.partition_get.Statement.{stateme
 use Rattle.mem_domain.proofs.MemDomain.partition_get.Tie as tie
 
 got-nothing-requires : tie.Need-got-nothing-requires
-got-nothing-requires c κs = search needs
+got-nothing-requires c κs = tt
 
 returns : tie.Need-returns
 returns c = (c .got-nothing .ensures) ∙ sym (gotten-out _ _ (c .before .if1 .taken))
 
 mul-slot : tie.Need-mul-slot
-mul-slot c = search needs
+mul-slot c = omega arith
 
 element-copy-out-slot : tie.Need-element-copy-out-slot
-element-copy-out-slot c = search needs
+element-copy-out-slot c = omega arith
 
 got-nothing-requires-2 : tie.Need-got-nothing-requires-2
 got-nothing-requires-2 c κs = search needs

@@ -1,20 +1,18 @@
-use borrow.Author.Tests.{le-leb, ne-eqb}
-use borrow.Author.Needs.{needs}
-use Rattle.answer.specs.Tests.{tests}
+use borrow.Author.Tests.{lt-leb, le-leb, eq-eqb, ne-eqb}
 use Rattle.mem_domain.specs.Partition.{holds}
 use Rattle.mem_domain.proofs.MemPartition.covers.Statement.{statement}
 use Rattle.mem_domain.proofs.MemPartition.covers.Tie as tie
 
 returns : tie.Need-returns
 unfolding holds
-returns c = search tests
+returns c = simp (eq-eqb _ _ (c .if1 .taken))
 
 returns-2 : tie.Need-returns-2
 unfolding holds
-returns-2 c = search tests
+returns-2 c = simp (ne-eqb _ _ (c .before .before .if1 .left), lt-leb _ _ (c .if2 .taken))
 
 end-u64-requires : tie.Need-end-u64-requires
-end-u64-requires c κs = search needs
+end-u64-requires c κs = tt
 
 returns-3 : tie.Need-returns-3
 unfolding holds

@@ -1,16 +1,16 @@
+use native.Mathlib.Omega.{arith}
 use mathlib.Core.Path.{refl}
-use borrow.Author.Needs.{needs}
 use Rattle.mem_domain.proofs.MemPartition.end_u64.Statement.{statement}
 use Rattle.mem_domain.proofs.MemPartition.end_u64.Tie as tie
 
 cast-sum : tie.Need-cast-sum
-cast-sum c = search needs
+cast-sum c = omega arith
 
 cast-sum-2 : tie.Need-cast-sum-2
-cast-sum-2 c = search needs
+cast-sum-2 c = omega arith
 
 add-sum : tie.Need-add-sum
-add-sum c = search needs
+add-sum c = omega arith
 
 returns : tie.Need-returns
 returns c = refl

@@ -1,11 +1,10 @@
 use borrow.Author.Tests.{lt-ltb, le-ltb}
-use borrow.Author.Needs.{needs}
 use Rattle.mem_domain.specs.Partition.{isValid}
 use Rattle.mem_domain.proofs.MemPartition.is_valid.Statement.{statement}
 use Rattle.mem_domain.proofs.MemPartition.is_valid.Tie as tie
 
 end-u64-requires : tie.Need-end-u64-requires
-end-u64-requires c κs = search needs
+end-u64-requires c κs = tt
 
 returns : tie.Need-returns
 unfolding isValid

@@ -1,20 +1,18 @@
-use borrow.Author.Tests.{lt-ltb, ne-eqb}
-use borrow.Author.Needs.{needs}
-use Rattle.answer.specs.Tests.{tests}
+use borrow.Author.Tests.{lt-ltb, le-ltb, eq-eqb, ne-eqb}
 use Rattle.mem_domain.specs.Partition.{meets}
 use Rattle.mem_domain.proofs.MemPartition.meets.Statement.{statement}
 use Rattle.mem_domain.proofs.MemPartition.meets.Tie as tie
 
 returns : tie.Need-returns
 unfolding meets
-returns c = search tests
+returns c = simp (eq-eqb _ _ (c .if1 .taken))
 
 returns-2 : tie.Need-returns-2
 unfolding meets
-returns-2 c = search tests
+returns-2 c = simp (ne-eqb _ _ (c .before .before .if1 .left), le-ltb _ _ (c .if2 .taken))
 
 end-u64-requires : tie.Need-end-u64-requires
-end-u64-requires c κs = search needs
+end-u64-requires c κs = tt
 
 returns-3 : tie.Need-returns-3
 unfolding meets

@@ -8,7 +8,7 @@ use Rattle.mem_domain.proofs.MemPartition.overlaps.Statement.{statement
 use Rattle.mem_domain.proofs.MemPartition.overlaps.Tie as tie
 
 end-u64-requires : tie.Need-end-u64-requires
-end-u64-requires c κs = search needs
+end-u64-requires c κs = tt
 
 cast-if1 : tie.Need-cast-if1
 cast-if1 c = search needs
