@@ -1,5 +1,6 @@
 // Runs a stored list of cases over the memory domain and prints each answer. The list stands in `stdin`, five little-endian
 // words to a case: a number of `step`, then its four arguments. tests/mem_domain.py makes it, and works out `stdout` by a model.
+ghost use Prim.Native.Nat.{_<_};
 use libc::STDOUT_FILENO;
 use mem_domain::Changed;
 use mem_domain::MemDomain;
@@ -12,12 +13,18 @@ fn main() {
     let mut at = 0;
     while at < n {
         d = step(d, &cases, at);
+        if at > 65516 {
+            return;
+        }
         at += 20;
     }
 }
 
 // One case. Steps 1 and 2 write into the record itself, so that any record can be tried, unsound ones too.
 fn step(d: MemDomain, cases: &[u8; 65536], at: usize) -> MemDomain {
+    if at > 65516 {
+        return d;
+    }
     let op = number(cases, at);
     let a = number(cases, at + 4);
     let b = number(cases, at + 8);
@@ -145,9 +152,15 @@ fn number(cases: &[u8; 65536], at: usize) -> u32 {
     if at > 65532 {
         return 0;
     }
-    let b0 = cases[at] as u32;
-    let b1 = cases[at + 1] as u32;
-    let b2 = cases[at + 2] as u32;
-    let b3 = cases[at + 3] as u32;
+    let b0 = wide(cases[at]);
+    let b1 = wide(cases[at + 1]);
+    let b2 = wide(cases[at + 2]);
+    let b3 = wide(cases[at + 3]);
     b0 + b1 * 256 + b2 * 65536 + b3 * 16777216
+}
+
+fn wide(b: u8) -> u32
+    ensures { λ r. ⌜ r < 256 ⌝ }
+{
+    b as u32
 }
