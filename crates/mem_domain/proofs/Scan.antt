@@ -127,7 +127,11 @@ module _ (f : ℕ → Bool) where
   count-le zero = omega (arith, count-none)
   count-le (suc n) = count-turn (f n) n refl (count-le n)
 
-  -- all of them pass; one of them does not
+  -- none of them passes; all of them do; one of them does not
+  pub count-zero : (n : ℕ) → ((k : ℕ) → k < n → f k ≡ false) → countTo f n ≡ 0
+  count-zero zero e = count-none
+  count-zero (suc n) e = rw (← add-one n) (count-miss n (e n (le-refl _)) ∙ count-zero n (λ k l. e k (omega arith)))
+
   pub count-all : (n : ℕ) → ((k : ℕ) → k < n → f k ≡ true) → countTo f n ≡ n
   count-all zero e = count-none
   count-all (suc n) e = rw (← add-one n) (omega (arith, count-hit n (e n (le-refl _)), count-all n (λ k l. e k (omega arith))))

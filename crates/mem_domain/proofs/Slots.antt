@@ -149,7 +149,7 @@ module _ (l : List MemPartition) where
       window-again =
           lowest-is (windowAt (set l k p) (p .start) (p .size)) 16 k b (ap (isWindow (p .start) (p .size)) (slot-same h) ∙ window-self)
           (λ j g.
-          ap (isWindow (p .start) (p .size)) (slot-other j (λ (i : j ≡ k). omega arith))
+          ap (isWindow (p .start) (p .size)) (slot-other j (λ i. omega arith))
           ∙ not-before j (omega arith) (windowAt l (p .start) (p .size) j) refl)
 
     -- a free slot made all zero changes no count

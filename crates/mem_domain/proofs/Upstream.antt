@@ -8,7 +8,7 @@ use mathlib.Core.Bool.{Bool, true, false, not}
 use mathlib.Core.List.{List}
 use mathlib.Core.Logic.{_⊎_, inl, inr, _↔_, ⊎-elim}
 use lib.Dec.{ltb, eqb}
-use lib.ListN.{length, set, length-set, getD-replicate}
+use lib.ListN.{length, set, length-set, getD-replicate, length-replicate}
 use lib.Seq.{set-set, set-getD}
 use borrow.Author.Tests.{lt-ltb, le-leb, eq-eqb, ne-eqb, ltb-true, eqb-true}
 use Rattle.answer.specs.Answer.{numberOf}
@@ -21,7 +21,7 @@ use Rattle.mem_domain.specs.declared.MemPartition.{MemPartition}
 use Rattle.mem_domain.specs.declared.MemDomain.{MemDomain}
 use Rattle.mem_domain.specs.declared.Changed.{Changed}
 use Rattle.mem_domain.proofs.Tests.{and-left, and-right}
-use Rattle.mem_domain.proofs.Scan.{any-at, any-hit}
+use Rattle.mem_domain.proofs.Scan.{any-at, any-hit, count-zero}
 use Rattle.mem_domain.proofs.Partition.{valid-size, valid-end, overlap-sym, apart-disjoint, active-size, size-active, active-holds}
 use Rattle.mem_domain.proofs.Domain.{added-bad, added-full, added-ok, add-accepts, add-stores, removed-zero, removed-none, removed-ok, remove-matches, remove-frees, gotten-out, gotten-free, gotten-ok, has-window}
 use Rattle.mem_domain.proofs.Slots.{free-below, free-free, window-below, window-size, addable-valid, addable-apart, active-le, free-active, full-active, slot-same, slot-other, active-gain, active-loss, active-kept, window-again}
@@ -65,6 +65,13 @@ init-inv = record {
   bounded = omega (arith, init-count);
   valid = λ i h s. absurd (omega (arith, init-free i h));
   apart = λ i j h g n s t. absurd (omega (arith, init-free i h));
+}
+
+pub init-counted : Counted noPartitions
+unfolding noPartitions activeCount
+init-counted = record {
+  whole = length-replicate 16 empty;
+  exact = sym (count-zero (λ k. isActive (slotAt (noPartitions .partitions) k)) 16 (λ k h. ap isActive (init-zero k h)));
 }
 
 pub init-clean : Clean noPartitions
@@ -336,6 +343,21 @@ invariant-inductive = record {
   add = λ d p c inv. add-inv d p inv (c .whole);
   remove = λ d start size c inv. remove-inv d start size inv (c .whole);
 }
+
+-- the same of every domain that began with init, whatever was added and removed; its count is right, and its free slots are all zero
+pub data Reached : MemDomain → Type 0 where
+  begun : Reached noPartitions
+  grown : {d : MemDomain} (p : MemPartition) → Reached d → Reached (added d p .domain)
+  shrunk : {d : MemDomain} (start size : ℕ) → Reached d → Reached (removed d start size .domain)
+
+pub reached : {d : MemDomain} → Reached d → Inv d × Counted d × Clean d
+reached begun = (init-inv, init-counted, init-clean)
+reached (grown {d} p r) =
+    let (i, c, z) = reached r in
+    (add-inv d p i (c .whole), add-counted d p c, add-clean d p z (c .whole))
+reached (shrunk {d} start size r) =
+    let (i, c, z) = reached r in
+    (remove-inv d start size i (c .whole), remove-counted d start size c, remove-clean d start size z c)
 
 -- OK with a slot and a domain
 abbrev pub answered : ℕ → List MemPartition → ℕ → Changed

@@ -42,6 +42,7 @@ clashes l p = anyTo (clashAt l p) slots
 abbrev pub crossedAt : List MemPartition → ℕ → ℕ → ℕ → Bool
 crossedAt l start end k = isActive (slotAt l k) && meets start end (slotAt l k)
 
+-- such a window overlaps an active slot
 unfoldable pub crossed : List MemPartition → ℕ → ℕ → Bool
 crossed l start end = anyTo (crossedAt l start end) slots
 

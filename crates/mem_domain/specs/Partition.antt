@@ -28,10 +28,11 @@ meets start end q = ltb (q .start) end && ltb start (endOf q)
 unfoldable pub overlapOf : MemPartition → MemPartition → Bool
 overlapOf p q = meets (p .start) (endOf p) q
 
--- a slot is active when its size is not 0
+-- a slot with size 0 is free
 abbrev pub isFree : MemPartition → Bool
 isFree p = eqb (p .size) 0
 
+-- a slot is active when its size is not 0
 abbrev pub isActive : MemPartition → Bool
 isActive p = not (isFree p)
 

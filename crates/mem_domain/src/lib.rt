@@ -5,7 +5,7 @@ ghost use mathlib.Core.Path.{_≡_};
 ghost use mathlib.Core.Bool.{_&&_};
 ghost use Prim.Native.Nat.{_<_};
 ghost use Rattle.mem_domain.specs.Partition.{windowOf, endOf, isValid, overlapOf, isActive, meets, holds, isWindow};
-ghost use Rattle.mem_domain.specs.Domain.{activeCount, crossed, addable, lowestFree, hasFree, lowestWindow, containsAddr, noPartitions, refused, changedAt, added, removed, gotNothing, gotten};
+ghost use Rattle.mem_domain.specs.Domain.{slots, activeCount, crossed, addable, lowestFree, hasFree, lowestWindow, containsAddr, noPartitions, refused, changedAt, added, removed, gotNothing, gotten};
 
 // Upstream's limit, and the same as a number of places.
 pub const MAX_PARTITIONS: u32 = 16;
@@ -265,7 +265,7 @@ impl MemDomain {
 
     // Slot k becomes p, and the count is worked out anew, whatever it was.
     fn put(self, k: usize, p: MemPartition) -> Changed
-        requires { ⌜ k < 16 ⌝ }
+        requires { ⌜ k < slots ⌝ }
         ensures { λ r. ⌜ r ≡ changedAt (self .partitions) k p ⌝ }
     {
         let stored = MemPartition {
