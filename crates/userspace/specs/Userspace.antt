@@ -1,12 +1,12 @@
 -- What the permission leaf answers and changes: document 01, "Permission leaf", for any record taken literally.
 use Prim.Native.Nat.{ℕ, zero, suc}
-use mathlib.Core.Bool.{Bool, true, false, cond, not, _&&_, _||_}
+use mathlib.Core.Bool.{Bool, cond, _&&_, _||_}
 use lib.IntN.{ℤ, pos, negsuc}
 use lib.Dec.{ltb, eqb}
 use Rattle.answer.specs.declared.Answer.{Answer}
 use Rattle.answer.specs.declared.Code.the-variants as codes
 use Rattle.answer.specs.Answer.{numberOf}
-use Rattle.userspace.specs.Bit.{bitOf, setBit, clearBit}
+use Rattle.userspace.specs.Bit.{bitOf, isSet, setBit, clearBit}
 use Rattle.userspace.specs.declared.ObjType.{ObjType}
 use Rattle.userspace.specs.declared.ObjType.the-variants.{Any, Thread, Sem, Mutex, CondVar, MsgQ, Stack, Pipe, Timer, Event, MemSlab, Fifo, Lifo, SysMutex, Futex, Mbox}
 use Rattle.userspace.specs.declared.NamedType.{NamedType}
@@ -100,10 +100,6 @@ modeOf (negsuc zero) = MustNotBeInit
 modeOf (negsuc (suc n)) = DontCare
 
 -- ---- what a record says
-
--- bit k of a number is set
-unfoldable pub isSet : ℕ → ℕ → Bool
-isSet w k = eqb (bitOf w k) 1
 
 abbrev pub initialised : KernelObject → Bool
 initialised o = isSet (o .flags) INITIALISED

@@ -131,12 +131,16 @@ pub fn init_check_number(c: InitCheck) -> i8
 pub fn init_check_of(n: i32) -> NamedCheck
     ensures { λ r. ⌜ r ≡ checkNamed n ⌝ }
 {
-    match n {
-        0 => NamedCheck::Is(InitCheck::MustBeInit),
-        -1 => NamedCheck::Is(InitCheck::MustNotBeInit),
-        1 => NamedCheck::Is(InitCheck::DontCare),
-        _ => NamedCheck::Nothing,
+    if n == 0 {
+        return NamedCheck::Is(InitCheck::MustBeInit);
     }
+    if n == -1 {
+        return NamedCheck::Is(InitCheck::MustNotBeInit);
+    }
+    if n == 1 {
+        return NamedCheck::Is(InitCheck::DontCare);
+    }
+    NamedCheck::Nothing
 }
 
 // Bit t of a word, as a number; no thread from 64 on has one.
