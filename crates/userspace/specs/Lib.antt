@@ -1,2 +1,3 @@
 pub mod Bit
 pub mod Userspace
+pub mod Table
