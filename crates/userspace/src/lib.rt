@@ -194,10 +194,7 @@ fn changed_at(t: u32, before: KernelObject, after: KernelObject) -> Changed
 fn type_fits(expected: u8, actual: u8) -> bool
     ensures { λ r. ⌜ r ≡ typeFits expected actual ⌝ }
 {
-    if expected == 0 {
-        return true;
-    }
-    expected == actual
+    expected == 0 || expected == actual
 }
 
 impl KernelObject {
@@ -229,6 +226,7 @@ impl KernelObject {
         }
     }
 
+    // Another crate's way to a record: no flags, no bits.
     pub fn new(kind: u8) -> Self
         ensures { λ r. ⌜ r ≡ newObject kind ⌝ }
     {
@@ -344,7 +342,8 @@ impl KernelObject {
     pub fn obj_type_get(self) -> u8
         ensures { λ r. ⌜ r ≡ self .«obj_type» ⌝ }
     {
-        self.obj_type
+        let kind = self.obj_type;
+        kind
     }
 }
 
@@ -390,7 +389,7 @@ pub fn uninit_flags_decide(flags: u8) -> u8
 pub fn recycle_flags_decide(flags: u8) -> u8
     ensures { λ r. ⌜ r ≡ setBit flags 0 ⌝ }
 {
-    flags | KernelObject::INITIALIZED
+    init_flags_decide(flags)
 }
 
 pub fn make_public_flags_decide(flags: u8) -> u8
