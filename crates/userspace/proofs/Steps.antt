@@ -8,7 +8,7 @@ use mir.Syntax.{Width, w8, w32}
 use mir.Val.{SFits, ofZ, toZ}
 use mir.Facts.{toZ-ofZ}
 use Rattle.userspace.specs.Bit.{bitOf, isSet, setBit, clearBit}
-use Rattle.userspace.specs.Userspace.{THREADS, holds, bitAt, withBit, withoutBit, changedAt, done, refused, modeOf, checkNumber, checkNamed}
+use Rattle.userspace.specs.Userspace.{THREADS, holds, bitAt, withBit, withoutBit, changedAt, done, refused, judged, modeOf, checkNumber, checkNamed}
 use Rattle.userspace.specs.declared.KernelObject.{KernelObject}
 use Rattle.userspace.specs.declared.InitCheck.{InitCheck}
 use Rattle.userspace.specs.declared.InitCheck.the-variants.{MustBeInit, MustNotBeInit, DontCare}
@@ -62,3 +62,7 @@ named-else (pos (suc zero)) f g h = absurd (h refl)
 named-else (pos (suc (suc n))) f g h = refl
 named-else (negsuc zero) f g h = absurd (g refl)
 named-else (negsuc (suc n)) f g h = refl
+
+-- a judgement of equal parts
+pub same-judged : {f g a b i j : Bool} {c d : InitCheck} → f ≡ g → a ≡ b → i ≡ j → c ≡ d → judged f a i c ≡ judged g b j d
+same-judged p q r s = λ k. judged (p k) (q k) (r k) (s k)

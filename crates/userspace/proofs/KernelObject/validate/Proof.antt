@@ -1,6 +1,6 @@
+use Rattle.userspace.proofs.Steps.{same-judged, mode-number}
 use mathlib.Core.Path.{_∙_}
 use Rattle.userspace.specs.Userspace.{validated}
-use Rattle.userspace.proofs.Steps.{mode-number}
 use borrow.Author.Needs.{needs}
 use Rattle.userspace.proofs.KernelObject.validate.Statement.{statement}
 use Rattle.userspace.proofs.KernelObject.validate.Tie as tie
@@ -22,7 +22,7 @@ validate-decide-requires c κs = search needs
 
 returns : tie.Need-returns
 unfolding validated
-returns c = (c .validate-decide .ensures) ∙ rw ((c .before .before .before .before .type-fits .ensures), (c .before .before .before .check-access .ensures), (c .before .is-initialized .ensures), mode-number (c .before .before .before .before .before .args .check) _ (c .before .before .init-check-number .ensures))
+returns c = (c .validate-decide .ensures) ∙ same-judged (c .before .before .before .before .type-fits .ensures) (c .before .before .before .check-access .ensures) (c .before .is-initialized .ensures) (mode-number (c .before .before .before .before .before .args .check) _ (c .before .before .init-check-number .ensures))
 
 pub validate-spec : {M : Type 1} → statement M
 validate-spec =
