@@ -14,7 +14,10 @@ fn main() {
     let n = io::read_full(0, &mut cases);
     let mut o = KernelObject::new(0);
     let mut at = 0;
-    while at < n {
+    while at < 65536 {
+        if n <= at {
+            return;
+        }
         o = step(o, &cases, at);
         at += 16;
     }
@@ -22,6 +25,9 @@ fn main() {
 
 // One case. Step 0 puts the record itself, so that any record can be tried, unsound ones too.
 fn step(o: KernelObject, cases: &[u8; 65536], at: usize) -> KernelObject {
+    if at > 65520 {
+        return o;
+    }
     let op = byte(cases, at);
     let a = byte(cases, at + 1);
     let b = byte(cases, at + 2);
@@ -213,9 +219,14 @@ fn number(cases: &[u8; 65536], at: usize) -> u32 {
     if at > 65532 {
         return 0;
     }
-    let b0 = cases[at] as u32;
-    let b1 = cases[at + 1] as u32;
-    let b2 = cases[at + 2] as u32;
-    let b3 = cases[at + 3] as u32;
-    b0 + b1 * 256 + b2 * 65536 + b3 * 16777216
+    join(
+        byte(cases, at),
+        byte(cases, at + 1),
+        byte(cases, at + 2),
+        byte(cases, at + 3),
+    )
+}
+
+fn join(b0: u8, b1: u8, b2: u8, b3: u8) -> u32 {
+    (b0 as u32) + (b1 as u32) * 256 + (b2 as u32) * 65536 + (b3 as u32) * 16777216
 }
