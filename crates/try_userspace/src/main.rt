@@ -1,5 +1,5 @@
 // Runs a stored list of cases over the permission leaf and prints each answer. The list stands in `stdin`, sixteen bytes to a case:
-// a number of `step`, three bytes a, b, c, a thread or number n, and a word w, little-endian. tests/userspace.py makes it, and works
+// a number of `step`, three bytes a, b, c, a thread or number n, and a word w, little-endian. tests/userspace/cases.py makes it, and works
 // out `stdout` by a model that keeps a list of 64 yes or no, as upstream does.
 use libc::STDOUT_FILENO;
 use userspace::Changed;
@@ -48,6 +48,7 @@ fn step(o: KernelObject, cases: &[u8; 65536], at: usize) -> KernelObject {
         11 => validates(o, a, n, b == 1, c),
         12 => decides(a, b, c),
         13 => names(n, c),
+        14 => constants(),
         _ => word(b"?\n"),
     }
     o
@@ -138,6 +139,16 @@ fn names(n: u32, c: u8) {
         NamedCheck::Is(k) => signed(userspace::init_check_number(k)),
         NamedCheck::Nothing => word(b"-"),
     }
+    word(b"\n");
+}
+
+fn constants() {
+    word(b"constants ");
+    small(KernelObject::INITIALIZED);
+    small(KernelObject::PUBLIC);
+    small(KernelObject::ALLOC);
+    small(KernelObject::DRIVER);
+    figure(userspace::MAX_THREADS);
     word(b"\n");
 }
 

@@ -265,6 +265,5 @@ run-table (p ∷ ps) o = run-table ps (step p o .object) ∙ ap (λ (d : Did). a
 pub run-heard : (ps : List Op) (o : KernelObject) → heard ps o ≡ heardT ps (tableOf o)
 unfolding heard heardT
 run-heard [] o = refl
-run-heard (p ∷ ps) o =
-    ap (λ (l : List Answer). record { code = step p o .code; value = step p o .value } ∷ l) (run-heard ps (step p o .object))
+run-heard (p ∷ ps) o = ap (λ (l : List Answer). record { code = step p o .code; value = step p o .value } ∷ l) (run-heard ps (step p o .object))
     ∙ ap (λ (d : Did). record { code = d .code; value = d .value } ∷ heardT ps (d .table)) (step-table p o)

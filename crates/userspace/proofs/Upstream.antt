@@ -2,14 +2,14 @@
 -- Where upstream speaks of one flag or of tid < 64 and more holds, the lemma says the more.
 use Prim.Native.Nat.{ℕ, _-_, _*_, _^_, _<_, _≤_, min}
 use mathlib.Core.Path.{_≡_, refl, sym, ap, _∙_}
-use mathlib.Core.Logic.{_≢_}
+use mathlib.Core.Logic.{_≢_, _⊎_, inl, inr}
 use mathlib.Core.Bool.{Bool, true, false, cond, _&&_, _||_, or-true, and-false}
 use lib.Dec.{ltb, eqb, lit<}
 use lib.Bits.{bitAnd, bitOr}
 use native.Mathlib.Decide.{decLt, ℕ-discrete}
 use native.Mathlib.Nat.{one-mul, zero-mul}
 use native.Mathlib.Omega.{arith}
-use borrow.Author.Tests.{lt-ltb, le-ltb, eq-eqb, ne-eqb}
+use borrow.Author.Tests.{lt-ltb, le-ltb, eq-eqb, ne-eqb, eqb-true}
 use Rattle.answer.specs.Tests.{gt-eqb}
 use Rattle.userspace.specs.declared.ObjType.{ObjType}
 use Rattle.userspace.specs.declared.ObjType.the-variants.{Any, Thread, Sem, Mutex, CondVar, MsgQ, Stack, Pipe, Timer, Event, MemSlab, Fifo, Lifo, SysMutex, Futex, Mbox}
@@ -205,6 +205,19 @@ number-injective e a p = inside (sym (type-of-number e) ∙ ap typeNamed p ∙ t
 
 pub type-mismatch : (e a : ObjType) → e ≢ Any → a ≢ e → typeFits (typeNumber e) (typeNumber a) ≡ false
 type-mismatch e a z ne = type-differs (typeNumber e) (typeNumber a) (λ p. z (number-injective e Any p)) (λ p. ne (number-injective a e p))
+
+pub type-matches : (e a : ObjType) → (e ≡ Any) ⊎ (a ≡ e) → typeFits (typeNumber e) (typeNumber a) ≡ true
+unfolding typeFits
+type-matches e a (inl p) = rw p
+type-matches e a (inr p) = rw (eq-eqb (typeNumber e) (typeNumber a) (ap typeNumber (sym p))) (or-true (eqb (typeNumber e) 0))
+
+pub type-fits-says : (e a : ℕ) → typeFits e a ≡ true → (e ≡ 0) ⊎ (e ≡ a)
+unfolding typeFits
+type-fits-says e a p = go (ℕ-discrete e 0)
+  where
+    go : Dec (e ≡ 0) → (e ≡ 0) ⊎ (e ≡ a)
+    go (yes z) = inl z
+    go (no ne) = inr (eqb-true e a (sym (ap (λ (b : Bool). b || eqb e a) (ne-eqb e 0 ne)) ∙ p))
 
 pub validate-ebadf : (o : KernelObject) (e t : ℕ) (s : Bool) (c : InitCheck) → typeFits e (o .«obj_type») ≡ false → validated o e t s c ≡ Refused 3
 unfolding validated judged

@@ -1,8 +1,8 @@
 #!/usr/bin/env python3
 """Cases for the permission leaf, and what they must answer.
 
-    tests/userspace.py          writes crates/try_userspace/stdin (the cases) and crates/try_userspace/stdout (the answers)
-    tests/userspace.py --check  fails where the two files are not what this program writes
+    tests/userspace/cases.py    writes crates/try_userspace/stdin (the cases) and crates/try_userspace/stdout (the answers)
+    tests/userspace/run         fails where the two files are not what this program writes
 
 `rt check try_userspace` runs the cases over the proved crate and compares. The answers come from document 01 by a model of its own:
 a record with upstream's fields and a list of 64 yes or no, no word and no shift but in reading and printing it. Seeded, so that every
@@ -11,9 +11,9 @@ run writes the same. Python 3, standard library alone.
 import os
 import random
 import struct
-import sys
 
-HERE = os.path.join(os.path.dirname(os.path.dirname(os.path.abspath(__file__))), 'crates', 'try_userspace')
+ROOT = os.path.dirname(os.path.dirname(os.path.dirname(os.path.abspath(__file__))))
+HERE = os.path.join(ROOT, 'crates', 'try_userspace')
 MODES = [0, -1, 1, -2, 2, 127, -128]
 WIDE_MODES = [0, -1, 1, -2, 255, 2147483647, -2147483648]
 OK, EINVAL, EPERM, EBADF, EADDRINUSE = 0, 1, 2, 3, 4
@@ -94,6 +94,8 @@ def step(o, op, a, b, c, n, w):
     if op == 12:
         x, y, z = a & 1 == 1, a & 2 == 2, a & 4 == 4
         return o, f'decide {yes(x or y)} {judge(x, y, z, MODES[c])} {set_flag(b, 1)} {clear_flag(b, 1)} {set_flag(b, 1)} {set_flag(b, 2)} '
+    if op == 14:
+        return o, 'constants 1 2 4 8 64 '
     named = f'{n} ' if n < 16 else '- '
     mode = WIDE_MODES[c]
     return o, 'name ' + named + (str(mode) if mode in (0, -1, 1) else '-')
@@ -134,6 +136,7 @@ def cases():
             yield 12, a, random.randrange(256), c, 0, 0
     for n in list(range(17)) + [255, 256, 4294967295]:
         yield 13, 0, 0, n % 7, n, 0
+    yield 14, 0, 0, 0, 0, 0
     yield 1, 7, 0, 0, 0, 0
     for k in range(600):
         tid = random.choice([random.randrange(64), random.randrange(64), random.choice([63, 64, 65, 4294967295])])
@@ -155,16 +158,15 @@ def both():
     return bytes(data), ''.join(lines).encode()
 
 
-def main():
-    good = True
+def write():
     for name, text in zip(('stdin', 'stdout'), both()):
-        file = os.path.join(HERE, name)
-        if '--check' in sys.argv:
-            good &= os.path.exists(file) and open(file, 'rb').read() == text
-        else:
-            open(file, 'wb').write(text)
-    sys.exit(0 if good else 'crates/try_userspace/stdin or stdout is not what tests/userspace.py writes')
+        open(os.path.join(HERE, name), 'wb').write(text)
+
+
+def stored():
+    """Whether the two files are what `write` writes."""
+    return all(open(os.path.join(HERE, name), 'rb').read() == text for name, text in zip(('stdin', 'stdout'), both()))
 
 
 if __name__ == '__main__':
-    main()
+    write()
