@@ -19,6 +19,7 @@ use Rattle.userspace.specs.Userspace.{THREADS, INITIALISED, PUBLIC, ALLO
 
 -- ---- upstream's record
 
+-- `KernelObject`: obj_type, four flags, thread_perms
 pub record Table : Type 0 where
   pub kind : ℕ
   pub flag-initialized : Bool
@@ -33,12 +34,15 @@ pub record Did : Type 0 where
   pub value : ℕ
   pub table : Table
 
+-- `self.thread_perms = l`
 abbrev pub withPerms : Table → List Bool → Table
 withPerms u l = record { kind = u .kind; flag-initialized = u .flag-initialized; flag-public = u .flag-public; flag-alloc = u .flag-alloc; flag-driver = u .flag-driver; thread-perms = l }
 
+-- `self.flag_initialized = b`
 abbrev pub withInitialized : Table → Bool → Table
 withInitialized u b = record { kind = u .kind; flag-initialized = b; flag-public = u .flag-public; flag-alloc = u .flag-alloc; flag-driver = u .flag-driver; thread-perms = u .thread-perms }
 
+-- `self.flag_public = b`
 abbrev pub withPublic : Table → Bool → Table
 withPublic u b = record { kind = u .kind; flag-initialized = u .flag-initialized; flag-public = b; flag-alloc = u .flag-alloc; flag-driver = u .flag-driver; thread-perms = u .thread-perms }
 
@@ -52,55 +56,66 @@ blank = replicate THREADS false
 abbrev pub unless : ℕ → Table → Table → Did
 unless tid u v = cond (leb THREADS tid) (record { code = numberOf codes.Einval; value = 0; table = u }) (record { code = numberOf codes.Ok; value = 0; table = v })
 
+-- `new`
 abbrev pub newT : ℕ → Table
 newT t = record { kind = t; flag-initialized = false; flag-public = false; flag-alloc = false; flag-driver = false; thread-perms = blank }
 
+-- `grant_access`: `self.thread_perms[tid as usize] = true`
 abbrev pub grantT : Table → ℕ → Did
 grantT u tid = unless tid u (withPerms u (set (u .thread-perms) tid true))
 
+-- `revoke_access`: `self.thread_perms[tid as usize] = false`
 abbrev pub revokeT : Table → ℕ → Did
 revokeT u tid = unless tid u (withPerms u (set (u .thread-perms) tid false))
 
+-- `clear_thread_perm`: `self.revoke_access(tid)`
 abbrev pub clearThreadT : Table → ℕ → Did
 clearThreadT = revokeT
 
+-- `clear_all_perms`
 abbrev pub clearAllT : Table → Table
 clearAllT u = withPerms u blank
 
+-- `init_object`
 abbrev pub initT : Table → Table
 initT u = withInitialized u true
 
+-- `uninit_object`
 abbrev pub uninitT : Table → Table
 uninitT u = withInitialized u false
 
+-- `make_public`
 abbrev pub publicT : Table → Table
 publicT u = withPublic u true
 
--- upstream requires current_tid < 64; that precondition is a refusal here
+-- `recycle`, which requires current_tid < 64 upstream: here that is a refusal
 abbrev pub recycleT : Table → ℕ → Did
 recycleT u tid = unless tid u (initT (withPerms u (set blank tid true)))
 
 -- ---- upstream's queries
 
+-- `check_access`: supervisor, public, tid >= 64, the entry
 abbrev pub checkT : Table → ℕ → Bool → Bool
 checkT u tid supervisor =
     cond supervisor true (cond (u .flag-public) true (cond (leb THREADS tid) false (getD (u .thread-perms) tid false)))
 
--- Any matches all, every other type itself alone
+-- the `match` on expected_type: Any matches all, every other type itself alone
 abbrev pub typeT : ℕ → ℕ → Bool
 typeT expected actual = cond (eqb expected 0) true (eqb expected actual)
 
+-- the `match` on init_check
 abbrev pub initCheckT : InitCheck → Bool → Validated
 initCheckT MustBeInit i = cond (not i) (Refused (numberOf codes.Einval)) Ok
 initCheckT MustNotBeInit i = cond i (Refused (numberOf codes.Eaddrinuse)) Ok
 initCheckT DontCare i = Ok
 
+-- `validate`: EBADF, EPERM, then the initialisation
 abbrev pub validateT : Table → ℕ → ℕ → Bool → InitCheck → Validated
 validateT u expected tid supervisor check =
     cond (not (typeT expected (u .kind))) (Refused (numberOf codes.Ebadf)) (
     cond (not (checkT u tid supervisor)) (Refused (numberOf codes.Eperm)) (initCheckT check (u .flag-initialized)))
 
--- upstream requires tid < 64; that precondition is a refusal here
+-- `has_perm`, which requires tid < 64 upstream: here that is a refusal
 abbrev pub hasPermT : Table → ℕ → Answer
 hasPermT u tid =
     cond (leb THREADS tid)
@@ -123,6 +138,7 @@ unfoldable pub wordOf : List Bool → ℕ
 wordOf [] = 0
 wordOf (b ∷ l) = cond b 1 0 + wordOf l * 2
 
+-- the record as upstream has it
 unfoldable pub tableOf : KernelObject → Table
 tableOf o =
     record {
@@ -134,11 +150,13 @@ tableOf o =
       thread-perms = permsOf (o .word);
     }
 
+-- the same of what an operation answers
 abbrev pub didOf : Changed → Did
 didOf c = record { code = c .code; value = c .value; table = tableOf (c .object) }
 
 -- ---- any sequence of operations and queries
 
+-- every function of upstream's that takes or makes a record
 pub data Op : Type 0 where
   new : ℕ → Op
   grant revoke clearThread recycle : ℕ → Op
@@ -148,19 +166,23 @@ pub data Op : Type 0 where
   isInitialized isPublic objTypeGet : Op
   hasPerm : ℕ → Op
 
--- an operation that answers nothing, and a query, which changes nothing
+-- an operation that answers nothing
 abbrev pub becomes : KernelObject → Changed
 becomes o = record { code = numberOf codes.Ok; value = 0; object = o }
 
+-- a query, which changes nothing
 abbrev pub tells : Answer → KernelObject → Changed
 tells a o = record { code = a .code; value = a .value; object = o }
 
+-- a yes or no as an answer
 abbrev pub says : Bool → Answer
 says b = record { code = numberOf codes.Ok; value = cond b 1 0 }
 
+-- a number as an answer
 abbrev pub gives : ℕ → Answer
 gives n = record { code = numberOf codes.Ok; value = n }
 
+-- the same two, upstream
 abbrev pub becomesT : Table → Did
 becomesT u = record { code = numberOf codes.Ok; value = 0; table = u }
 

@@ -26,16 +26,19 @@ use Rattle.userspace.specs.declared.Validated.the-variants.{Ok, Refused}
 abbrev pub THREADS : ℕ
 THREADS = 64
 
--- the numbers of the flags' bits: initialised 1, public 2, alloc 4, driver 8
+-- the flags by their bit: initialised is 1, bit 0
 abbrev pub INITIALISED : ℕ
 INITIALISED = 0
 
+-- public is 2, bit 1
 abbrev pub PUBLIC : ℕ
 PUBLIC = 1
 
+-- alloc is 4, bit 2
 abbrev pub ALLOC : ℕ
 ALLOC = 2
 
+-- driver is 8, bit 3
 abbrev pub DRIVER : ℕ
 DRIVER = 3
 
@@ -101,9 +104,11 @@ modeOf (negsuc (suc n)) = DontCare
 
 -- ---- what a record says
 
+-- the initialised flag is set
 abbrev pub initialised : KernelObject → Bool
 initialised o = isSet (o .flags) INITIALISED
 
+-- the public flag is set
 abbrev pub public : KernelObject → Bool
 public o = isSet (o .flags) PUBLIC
 
@@ -115,19 +120,21 @@ holds o t = ltb t THREADS && isSet (o .word) t
 unfoldable pub access : KernelObject → ℕ → Bool → Bool
 access o t supervisor = supervisor || (public o || holds o t)
 
--- the record with another word, or other flags
+-- the record with another word
 abbrev pub withWord : KernelObject → ℕ → KernelObject
 withWord o w = record { «obj_type» = o .«obj_type»; flags = o .flags; word = w }
 
+-- the record with other flags
 abbrev pub withFlags : KernelObject → ℕ → KernelObject
 withFlags o f = record { «obj_type» = o .«obj_type»; flags = f; word = o .word }
 
 -- ---- what is answered
 
--- OK, value 0; and a refusal of a thread: EINVAL, value 0
+-- done: OK, value 0, and the record after
 abbrev pub done : KernelObject → Changed
 done o = record { code = numberOf codes.Ok; value = 0; object = o }
 
+-- a refusal of a thread: EINVAL, value 0, and the record as it was
 abbrev pub refused : KernelObject → Changed
 refused o = record { code = numberOf codes.Einval; value = 0; object = o }
 
@@ -158,13 +165,15 @@ revoked o t = changedAt t o (withWord o (clearBit (o .word) t))
 abbrev pub clearedAll : KernelObject → KernelObject
 clearedAll o = withWord o 0
 
--- init, uninit, make public: one flag changes
+-- init: only the initialised flag changes, to set
 abbrev pub initiated : KernelObject → KernelObject
 initiated o = withFlags o (setBit (o .flags) INITIALISED)
 
+-- uninit: only the initialised flag changes, to clear
 abbrev pub uninitiated : KernelObject → KernelObject
 uninitiated o = withFlags o (clearBit (o .flags) INITIALISED)
 
+-- make public: only the public flag changes, to set
 abbrev pub published : KernelObject → KernelObject
 published o = withFlags o (setBit (o .flags) PUBLIC)
 
@@ -207,8 +216,10 @@ validated o expected t supervisor check =
 unfoldable pub bitAt : ℕ → ℕ → ℕ
 bitAt w t = cond (ltb t THREADS) (bitOf w t) 0
 
+-- the word with bit t on, from 64 on as it is
 unfoldable pub withBit : ℕ → ℕ → ℕ
 withBit w t = cond (ltb t THREADS) (setBit w t) w
 
+-- the word with bit t off, from 64 on as it is
 unfoldable pub withoutBit : ℕ → ℕ → ℕ
 withoutBit w t = cond (ltb t THREADS) (clearBit w t) w

@@ -4,9 +4,8 @@
 // refused with EINVAL and the record comes back unchanged; the word acts as upstream's table (proofs/Table).
 ghost use mathlib.Core.Path.{_≡_};
 ghost use mathlib.Core.Bool.{_||_};
-ghost use lib.Dec.{eqb};
 ghost use Rattle.userspace.specs.Bit.{setBit, clearBit};
-ghost use Rattle.userspace.specs.Userspace.{typeNumber, typeNamed, checkNumber, checkNamed, modeOf, bitAt, withBit, withoutBit, withWord, withFlags, public, initialised, changedAt, newObject, granted, revoked, clearedAll, access, typeFits, judged, validated, initiated, uninitiated, recycled, published, bitAnswer};
+ghost use Rattle.userspace.specs.Userspace.{INITIALISED, PUBLIC, typeNumber, typeNamed, checkNumber, checkNamed, modeOf, bitAt, withBit, withoutBit, withWord, withFlags, public, initialised, changedAt, newObject, granted, revoked, clearedAll, access, typeFits, judged, validated, initiated, uninitiated, recycled, published, bitAnswer};
 use answer::Answer;
 
 // Threads 0 to 63 have a bit.
@@ -375,25 +374,25 @@ pub fn validate_decide(fits: bool, allowed: bool, ready: bool, mode: i8) -> Vali
 }
 
 pub fn init_flags_decide(flags: u8) -> u8
-    ensures { λ r. ⌜ r ≡ setBit flags 0 ⌝ }
+    ensures { λ r. ⌜ r ≡ setBit flags INITIALISED ⌝ }
 {
     flags | KernelObject::INITIALIZED
 }
 
 pub fn uninit_flags_decide(flags: u8) -> u8
-    ensures { λ r. ⌜ r ≡ clearBit flags 0 ⌝ }
+    ensures { λ r. ⌜ r ≡ clearBit flags INITIALISED ⌝ }
 {
     flags & !KernelObject::INITIALIZED
 }
 
 pub fn recycle_flags_decide(flags: u8) -> u8
-    ensures { λ r. ⌜ r ≡ setBit flags 0 ⌝ }
+    ensures { λ r. ⌜ r ≡ setBit flags INITIALISED ⌝ }
 {
     init_flags_decide(flags)
 }
 
 pub fn make_public_flags_decide(flags: u8) -> u8
-    ensures { λ r. ⌜ r ≡ setBit flags 1 ⌝ }
+    ensures { λ r. ⌜ r ≡ setBit flags PUBLIC ⌝ }
 {
     flags | KernelObject::PUBLIC
 }
