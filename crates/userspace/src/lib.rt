@@ -37,11 +37,11 @@ pub enum NamedType {
     Nothing,
 }
 
-// What a validation asks of the initialised flag: 0, -1 and 1.
+// What a validation asks of the initialised flag.
 pub enum InitCheck {
-    MustBeInit,
-    MustNotBeInit,
-    DontCare,
+    MustBeInit = 0,
+    MustNotBeInit = -1,
+    DontCare = 1,
 }
 
 // What a number names: a mode, or nothing.
@@ -225,7 +225,6 @@ impl KernelObject {
         }
     }
 
-    // Another crate's way to a record: no flags, no bits.
     pub fn new(kind: u8) -> Self
         ensures { λ r. ⌜ r ≡ newObject kind ⌝ }
     {
