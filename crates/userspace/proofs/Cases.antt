@@ -12,8 +12,9 @@ use Rattle.userspace.specs.declared.Validated.{Validated}
 use Rattle.userspace.specs.declared.Validated.the-variants.{Ok, Refused}
 use Rattle.userspace.specs.Bit.{bitOf, isSet, setBit, clearBit, bit-ext, bit-shr, set-other, clear-other}
 use Rattle.userspace.specs.Userspace.{ALLOC, DRIVER, PUBLIC, initialised, public, holds, access, changedAt, done, refused, newObject, granted, revoked, recycled, typeFits, judged, validated, withWord}
+use Rattle.userspace.specs.Laws.{either-way}
 use Rattle.userspace.specs.Table.{Op, step}
-use Rattle.userspace.proofs.Upstream.{either-way, grant-refuses, grant-does, grant-sets, grant-keeps-flags, revoke-keeps-flags, revoke-keeps-others, recycle-keeps-flags, access-bit}
+use Rattle.userspace.proofs.Upstream.{grant-refuses, grant-does, grant-sets, grant-keeps-flags, revoke-keeps-flags, revoke-keeps-others, recycle-keeps-flags, access-bit}
 use Rattle.userspace.proofs.KernelObject.validate.Reads as validate
 
 -- ---- validate says OK exactly when all three hold, and each refusal exactly on its condition

@@ -22,6 +22,7 @@ use Rattle.userspace.specs.declared.Changed.{Changed}
 use Rattle.userspace.specs.declared.Validated.the-variants.{Ok, Refused}
 use Rattle.userspace.specs.Bit.{bitOf, isSet, setBit, clearBit, bit-lt, set-same, set-other, clear-same, clear-other, is-set-same, is-set-other, is-clear-same, is-clear-other, is-zero, is-bit, bit-is, bit-ext, bit-ext-below, and-one, clear-mask, bit-and, set-lt, clear-lt}
 use Rattle.userspace.specs.Userspace.{THREADS, INITIALISED, PUBLIC, ALLOC, DRIVER, typeNumber, typeNamed, checkNumber, checkNamed, initialised, public, holds, access, changedAt, done, refused, newObject, granted, revoked, clearedAll, recycled, initiated, uninitiated, published, bitAnswer, typeFits, judged, validated, withWord}
+use Rattle.userspace.specs.Laws.{refuses, does, either-way}
 use Rattle.userspace.specs.Table.{Op, step}
 
 -- ---- constants and names
@@ -91,23 +92,6 @@ pub new-no-flags : (t k : ℕ) → isSet (newObject t .flags) k ≡ false
 new-no-flags t k = is-zero k
 
 -- ---- grant, revoke and recycle at a thread
-
-refuses : (t : ℕ) (o p : KernelObject) → 64 ≤ t → changedAt t o p ≡ refused o
-unfolding changedAt
-refuses t o p h = simp (le-ltb t THREADS h)
-
-does : (t : ℕ) (o p : KernelObject) → t < 64 → changedAt t o p ≡ done p
-unfolding changedAt
-does t o p h = simp (lt-ltb t THREADS h)
-
--- what is so before and after is so of the answer, whatever the thread
-module _ {A : Type 0} (f : KernelObject → A) where
-  pub either-way : (t : ℕ) (o p : KernelObject) → f p ≡ f o → f (changedAt t o p .object) ≡ f o
-  either-way t o p e = go (decLt t 64)
-    where
-      go : Dec (t < 64) → f (changedAt t o p .object) ≡ f o
-      go (yes h) = ap (λ (c : Changed). f (c .object)) (does t o p h) ∙ e
-      go (no g) = ap (λ (c : Changed). f (c .object)) (refuses t o p (omega arith))
 
 -- EINVAL, and the whole record as before
 pub grant-refuses : (o : KernelObject) (t : ℕ) → 64 ≤ t → granted o t ≡ refused o
