@@ -1,8 +1,8 @@
 #!/usr/bin/env python3
 """Cases for the memory domain, and what each must answer.
 
-Run in the repository:  python3 tests/mem_domain.py         writes crates/try_mem_domain/stdin and stdout
-                        python3 tests/mem_domain.py --check  says whether the stored files are those
+Run in the repository:  python3 tests/mem_domain/cases.py         writes crates/try_mem_domain/stdin and stdout
+                        python3 tests/mem_domain/cases.py --check  says whether the stored files are those
 
 The list is made from the seed below, so that it is the same at every run. The answers come from `Domain`, a model written from
 document 01 ("Answers", "Partition", "Domain") and not from the Rattle code; `rt check try_mem_domain` runs the program on
@@ -217,7 +217,7 @@ def main():
     counts(t)
     unsound(t, r)
     long_run(t, r)
-    here = os.path.join(os.path.dirname(os.path.abspath(__file__)), '..', 'crates', 'try_mem_domain')
+    here = os.path.join(os.path.dirname(os.path.abspath(__file__)), '..', '..', 'crates', 'try_mem_domain')
     made = {'stdin': b''.join(t.cases), 'stdout': ''.join(t.out).encode()}
     assert len(made['stdin']) <= 65536
     for name, data in made.items():

@@ -1,0 +1,4 @@
+pub mod Bit
+pub mod Userspace
+pub mod Laws
+pub mod Table

@@ -1,0 +1,397 @@
+// The permission leaf: one kernel object by value, its permissions one 64-bit word, bit t for thread t.
+// Upstream's userspace.rs with a word for its table of 64 booleans. What is promised: each function is the
+// definition of specs/Userspace for every record taken literally and every number; a thread from 64 on is
+// refused with EINVAL and the record comes back unchanged; the word acts as upstream's table (proofs/Table).
+ghost use mathlib.Core.Path.{_≡_};
+ghost use mathlib.Core.Bool.{_||_};
+ghost use Rattle.userspace.specs.Bit.{setBit, clearBit};
+ghost use Rattle.userspace.specs.Userspace.{INITIALISED, PUBLIC, typeNumber, typeNamed, checkNumber, checkNamed, modeOf, bitAt, withBit, withoutBit, withWord, withFlags, public, initialised, changedAt, newObject, granted, revoked, clearedAll, access, typeFits, judged, validated, initiated, uninitiated, recycled, published, bitAnswer};
+use answer::Answer;
+
+// Threads 0 to 63 have a bit.
+pub const MAX_THREADS: u32 = 64;
+
+// What a kernel object is. A record holds the number, which may be none of these.
+pub enum ObjType {
+    Any = 0,
+    Thread = 1,
+    Sem = 2,
+    Mutex = 3,
+    CondVar = 4,
+    MsgQ = 5,
+    Stack = 6,
+    Pipe = 7,
+    Timer = 8,
+    Event = 9,
+    MemSlab = 10,
+    Fifo = 11,
+    Lifo = 12,
+    SysMutex = 13,
+    Futex = 14,
+    Mbox = 15,
+}
+
+// What a number names: a type, or nothing.
+pub enum NamedType {
+    Is(ObjType),
+    Nothing,
+}
+
+// What a validation asks of the initialised flag.
+pub enum InitCheck {
+    MustBeInit = 0,
+    MustNotBeInit = -1,
+    DontCare = 1,
+}
+
+// What a number names: a mode, or nothing.
+pub enum NamedCheck {
+    Is(InitCheck),
+    Nothing,
+}
+
+// A record as it is stored: type and flags are compared and never judged.
+pub struct KernelObject {
+    pub obj_type: u8,
+    pub flags: u8,
+    pub word: u64,
+}
+
+// What grant, revoke, per-thread clear and recycle answer: the table's number, a value, and the record.
+pub struct Changed {
+    pub code: u32,
+    pub value: u32,
+    pub object: KernelObject,
+}
+
+// Upstream's Result of a validation: the refusing case holds the table's number.
+pub enum Validated {
+    Ok,
+    Refused(u32),
+}
+
+pub fn obj_type_number(t: ObjType) -> u8
+    ensures { λ r. ⌜ r ≡ typeNumber t ⌝ }
+{
+    match t {
+        ObjType::Any => 0,
+        ObjType::Thread => 1,
+        ObjType::Sem => 2,
+        ObjType::Mutex => 3,
+        ObjType::CondVar => 4,
+        ObjType::MsgQ => 5,
+        ObjType::Stack => 6,
+        ObjType::Pipe => 7,
+        ObjType::Timer => 8,
+        ObjType::Event => 9,
+        ObjType::MemSlab => 10,
+        ObjType::Fifo => 11,
+        ObjType::Lifo => 12,
+        ObjType::SysMutex => 13,
+        ObjType::Futex => 14,
+        ObjType::Mbox => 15,
+    }
+}
+
+pub fn obj_type_of(n: u32) -> NamedType
+    ensures { λ r. ⌜ r ≡ typeNamed n ⌝ }
+{
+    match n {
+        0 => NamedType::Is(ObjType::Any),
+        1 => NamedType::Is(ObjType::Thread),
+        2 => NamedType::Is(ObjType::Sem),
+        3 => NamedType::Is(ObjType::Mutex),
+        4 => NamedType::Is(ObjType::CondVar),
+        5 => NamedType::Is(ObjType::MsgQ),
+        6 => NamedType::Is(ObjType::Stack),
+        7 => NamedType::Is(ObjType::Pipe),
+        8 => NamedType::Is(ObjType::Timer),
+        9 => NamedType::Is(ObjType::Event),
+        10 => NamedType::Is(ObjType::MemSlab),
+        11 => NamedType::Is(ObjType::Fifo),
+        12 => NamedType::Is(ObjType::Lifo),
+        13 => NamedType::Is(ObjType::SysMutex),
+        14 => NamedType::Is(ObjType::Futex),
+        15 => NamedType::Is(ObjType::Mbox),
+        _ => NamedType::Nothing,
+    }
+}
+
+pub fn init_check_number(c: InitCheck) -> i8
+    ensures { λ r. ⌜ r ≡ checkNumber c ⌝ }
+{
+    match c {
+        InitCheck::MustBeInit => 0,
+        InitCheck::MustNotBeInit => -1,
+        InitCheck::DontCare => 1,
+    }
+}
+
+pub fn init_check_of(n: i32) -> NamedCheck
+    ensures { λ r. ⌜ r ≡ checkNamed n ⌝ }
+{
+    if n == 0 {
+        return NamedCheck::Is(InitCheck::MustBeInit);
+    }
+    if n == -1 {
+        return NamedCheck::Is(InitCheck::MustNotBeInit);
+    }
+    if n == 1 {
+        return NamedCheck::Is(InitCheck::DontCare);
+    }
+    NamedCheck::Nothing
+}
+
+// Bit t of a word, as a number; no thread from 64 on has one.
+fn bit(word: u64, t: u32) -> u32
+    ensures { λ r. ⌜ r ≡ bitAt word t ⌝ }
+{
+    if MAX_THREADS <= t {
+        return 0;
+    }
+    ((word >> t) % 2) as u32
+}
+
+// The word with bit t on; from 64 on the word itself, so that no shift is ever by 64.
+fn with_bit(word: u64, t: u32) -> u64
+    ensures { λ r. ⌜ r ≡ withBit word t ⌝ }
+{
+    if MAX_THREADS <= t {
+        return word;
+    }
+    word | (1u64 << t)
+}
+
+// The word with bit t off; from 64 on the word itself.
+fn without_bit(word: u64, t: u32) -> u64
+    ensures { λ r. ⌜ r ≡ withoutBit word t ⌝ }
+{
+    if MAX_THREADS <= t {
+        return word;
+    }
+    word & !(1u64 << t)
+}
+
+// The one place that refuses a thread: OK and the record after, or EINVAL and the record before.
+fn changed_at(t: u32, before: KernelObject, after: KernelObject) -> Changed
+    ensures { λ r. ⌜ r ≡ changedAt t before after ⌝ }
+{
+    if t < MAX_THREADS {
+        return Changed {
+            code: answer::OK,
+            value: 0,
+            object: after,
+        };
+    }
+    Changed {
+        code: answer::EINVAL,
+        value: 0,
+        object: before,
+    }
+}
+
+fn type_fits(expected: u8, actual: u8) -> bool
+    ensures { λ r. ⌜ r ≡ typeFits expected actual ⌝ }
+{
+    expected == 0 || expected == actual
+}
+
+impl KernelObject {
+    pub const INITIALIZED: u8 = 1;
+
+    pub const PUBLIC: u8 = 2;
+
+    pub const ALLOC: u8 = 4;
+
+    pub const DRIVER: u8 = 8;
+
+    fn with_word(self, word: u64) -> Self
+        ensures { λ r. ⌜ r ≡ withWord self word ⌝ }
+    {
+        Self {
+            obj_type: self.obj_type,
+            flags: self.flags,
+            word,
+        }
+    }
+
+    fn with_flags(self, flags: u8) -> Self
+        ensures { λ r. ⌜ r ≡ withFlags self flags ⌝ }
+    {
+        Self {
+            obj_type: self.obj_type,
+            flags,
+            word: self.word,
+        }
+    }
+
+    pub fn new(kind: u8) -> Self
+        ensures { λ r. ⌜ r ≡ newObject kind ⌝ }
+    {
+        Self {
+            obj_type: kind,
+            flags: 0,
+            word: 0,
+        }
+    }
+
+    pub fn grant_access(self, tid: u32) -> Changed
+        ensures { λ r. ⌜ r ≡ granted self tid ⌝ }
+    {
+        let word = with_bit(self.word, tid);
+        changed_at(tid, self, self.with_word(word))
+    }
+
+    pub fn revoke_access(self, tid: u32) -> Changed
+        ensures { λ r. ⌜ r ≡ revoked self tid ⌝ }
+    {
+        let word = without_bit(self.word, tid);
+        changed_at(tid, self, self.with_word(word))
+    }
+
+    pub fn clear_thread_perm(self, tid: u32) -> Changed
+        ensures { λ r. ⌜ r ≡ revoked self tid ⌝ }
+    {
+        self.revoke_access(tid)
+    }
+
+    pub fn clear_all_perms(self) -> Self
+        ensures { λ r. ⌜ r ≡ clearedAll self ⌝ }
+    {
+        self.with_word(0)
+    }
+
+    pub fn check_access(self, tid: u32, supervisor: bool) -> bool
+        ensures { λ r. ⌜ r ≡ access self tid supervisor ⌝ }
+    {
+        if supervisor {
+            return true;
+        }
+        access_decide(self.is_public(), bit(self.word, tid) == 1)
+    }
+
+    pub fn validate(self, expected: u8, tid: u32, supervisor: bool, check: InitCheck) -> Validated
+        ensures { λ r. ⌜ r ≡ validated self expected tid supervisor check ⌝ }
+    {
+        let fits = type_fits(expected, self.obj_type);
+        let allowed = self.check_access(tid, supervisor);
+        let mode = init_check_number(check);
+        validate_decide(fits, allowed, self.is_initialized(), mode)
+    }
+
+    pub fn init_object(self) -> Self
+        ensures { λ r. ⌜ r ≡ initiated self ⌝ }
+    {
+        self.with_flags(init_flags_decide(self.flags))
+    }
+
+    pub fn uninit_object(self) -> Self
+        ensures { λ r. ⌜ r ≡ uninitiated self ⌝ }
+    {
+        self.with_flags(uninit_flags_decide(self.flags))
+    }
+
+    pub fn recycle(self, caller: u32) -> Changed
+        ensures { λ r. ⌜ r ≡ recycled self caller ⌝ }
+    {
+        let flags = recycle_flags_decide(self.flags);
+        let word = with_bit(0, caller);
+        let after = Self {
+            obj_type: self.obj_type,
+            flags,
+            word,
+        };
+        changed_at(caller, self, after)
+    }
+
+    pub fn make_public(self) -> Self
+        ensures { λ r. ⌜ r ≡ published self ⌝ }
+    {
+        self.with_flags(make_public_flags_decide(self.flags))
+    }
+
+    pub fn is_initialized(self) -> bool
+        ensures { λ r. ⌜ r ≡ initialised self ⌝ }
+    {
+        self.flags & Self::INITIALIZED != 0
+    }
+
+    pub fn is_public(self) -> bool
+        ensures { λ r. ⌜ r ≡ public self ⌝ }
+    {
+        self.flags & Self::PUBLIC != 0
+    }
+
+    pub fn has_perm(self, tid: u32) -> Answer
+        ensures { λ r. ⌜ r ≡ bitAnswer self tid ⌝ }
+    {
+        if MAX_THREADS <= tid {
+            return Answer {
+                code: answer::EINVAL,
+                value: 0,
+            };
+        }
+        Answer {
+            code: answer::OK,
+            value: bit(self.word, tid),
+        }
+    }
+
+    pub fn obj_type_get(self) -> u8
+        ensures { λ r. ⌜ r ≡ self .«obj_type» ⌝ }
+    {
+        let kind = self.obj_type;
+        kind
+    }
+}
+
+pub fn access_decide(public: bool, held: bool) -> bool
+    ensures { λ r. ⌜ r ≡ (public || held) ⌝ }
+{
+    public || held
+}
+
+pub fn validate_decide(fits: bool, allowed: bool, ready: bool, mode: i8) -> Validated
+    ensures { λ r. ⌜ r ≡ judged fits allowed ready (modeOf mode) ⌝ }
+{
+    if !fits {
+        return Validated::Refused(answer::EBADF);
+    }
+    if !allowed {
+        return Validated::Refused(answer::EPERM);
+    }
+    if mode == 0 {
+        if !ready {
+            return Validated::Refused(answer::EINVAL);
+        }
+    } else if mode == -1 {
+        if ready {
+            return Validated::Refused(answer::EADDRINUSE);
+        }
+    }
+    Validated::Ok
+}
+
+pub fn init_flags_decide(flags: u8) -> u8
+    ensures { λ r. ⌜ r ≡ setBit flags INITIALISED ⌝ }
+{
+    flags | KernelObject::INITIALIZED
+}
+
+pub fn uninit_flags_decide(flags: u8) -> u8
+    ensures { λ r. ⌜ r ≡ clearBit flags INITIALISED ⌝ }
+{
+    flags & !KernelObject::INITIALIZED
+}
+
+pub fn recycle_flags_decide(flags: u8) -> u8
+    ensures { λ r. ⌜ r ≡ setBit flags INITIALISED ⌝ }
+{
+    init_flags_decide(flags)
+}
+
+pub fn make_public_flags_decide(flags: u8) -> u8
+    ensures { λ r. ⌜ r ≡ setBit flags PUBLIC ⌝ }
+{
+    flags | KernelObject::PUBLIC
+}
