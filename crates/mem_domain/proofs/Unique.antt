@@ -12,6 +12,7 @@ use Rattle.mem_domain.proofs.MemDomain.init.Reads as init
 use Rattle.mem_domain.proofs.MemDomain.add_partition.Reads as add-partition
 use Rattle.mem_domain.proofs.MemDomain.remove_partition.Reads as remove-partition
 use Rattle.mem_domain.proofs.MemDomain.num_partitions_get.Reads as num-partitions-get
+use Rattle.mem_domain.proofs.MemDomain.counted.Reads as counted
 use Rattle.mem_domain.proofs.MemDomain.partition_get.Reads as partition-get
 use Rattle.mem_domain.proofs.MemDomain.has_free_slot.Reads as has-free-slot
 use Rattle.mem_domain.proofs.MemDomain.contains_addr.Reads as contains-addr
@@ -45,6 +46,10 @@ remove-partition-unique a r₁ r₂ s₁ s₂ p q = p ∙ sym q
 pub num-partitions-get-unique :
     (a : _) (r₁ r₂ : ℕ) (s₁ s₂ : _) → num-partitions-get.Post (tt {0}) a r₁ s₁ → num-partitions-get.Post (tt {0}) a r₂ s₂ → r₁ ≡ r₂
 num-partitions-get-unique a r₁ r₂ s₁ s₂ p q = p ∙ sym q
+
+pub counted-unique :
+    (a : _) (r₁ r₂ : MemDomain) (s₁ s₂ : _) → counted.Post (tt {0}) a r₁ s₁ → counted.Post (tt {0}) a r₂ s₂ → r₁ ≡ r₂
+counted-unique a r₁ r₂ s₁ s₂ p q = p ∙ sym q
 
 pub partition-get-unique :
     (a : _) (r₁ r₂ : Got) (s₁ s₂ : _) → partition-get.Post (tt {0}) a r₁ s₁ → partition-get.Post (tt {0}) a r₂ s₂ → r₁ ≡ r₂

@@ -30,6 +30,10 @@ activeTo l = countTo (λ k. isActive (slotAt l k))
 unfoldable pub activeCount : List MemPartition → ℕ
 activeCount l = activeTo l slots
 
+-- the slots with their count
+unfoldable pub withCount : List MemPartition → MemDomain
+withCount l = record { partitions = l; «num_partitions» = activeCount l }
+
 -- slot k is active and overlaps the window
 abbrev pub clashAt : List MemPartition → MemPartition → ℕ → Bool
 clashAt l p k = isActive (slotAt l k) && overlapOf p (slotAt l k)

@@ -5,7 +5,7 @@ ghost use mathlib.Core.Path.{_≡_};
 ghost use mathlib.Core.Bool.{_&&_};
 ghost use Prim.Native.Nat.{_<_};
 ghost use Rattle.mem_domain.specs.Partition.{windowOf, endOf, isValid, overlapOf, isActive, meets, holds, isWindow};
-ghost use Rattle.mem_domain.specs.Domain.{slots, activeCount, crossed, addable, lowestFree, hasFree, lowestWindow, containsAddr, noPartitions, refused, changedAt, added, removed, gotNothing, gotten};
+ghost use Rattle.mem_domain.specs.Domain.{slots, activeCount, withCount, crossed, addable, lowestFree, hasFree, lowestWindow, containsAddr, noPartitions, refused, changedAt, added, removed, gotNothing, gotten};
 
 // Upstream's limit, and the same as a number of places.
 pub const MAX_PARTITIONS: u32 = 16;
@@ -148,6 +148,15 @@ impl MemDomain {
             attr: 0,
         };
         self.put(at, empty)
+    }
+
+    // The same slots with their count worked out anew: a domain that comes out of a table brings none.
+    pub fn counted(mut self) -> MemDomain
+        ensures { λ r. ⌜ r ≡ withCount (self .partitions) ⌝ }
+    {
+        let n = self.count_active();
+        self.num_partitions = n;
+        self
     }
 
     pub fn num_partitions_get(self) -> u32

@@ -1,0 +1,7 @@
+-- Two answers that meet `is_sound`'s own contract are equal.
+use mathlib.Core.Path.{_≡_, sym, _∙_}
+use mathlib.Core.Bool.{Bool}
+use Rattle.domain_rules.proofs.is_sound.Reads as is-sound
+
+pub is-sound-unique : (a : _) (r₁ r₂ : Bool) (s₁ s₂ : _) → is-sound.Post (tt {0}) a r₁ s₁ → is-sound.Post (tt {0}) a r₂ s₂ → r₁ ≡ r₂
+is-sound-unique a r₁ r₂ s₁ s₂ p q = p ∙ sym q

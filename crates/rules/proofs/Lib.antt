@@ -1,0 +1,4 @@
+pub mod Bits
+pub mod Rules
+pub mod Pass
+pub mod Unique

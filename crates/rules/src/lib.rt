@@ -1,0 +1,166 @@
+// The rules of a state, and the one function that judges three lent tables by them: of any length, with any content.
+// Calls, image and writer answer VALUE by `keeps`. Promised: it says true exactly when document 01's rules hold (proofs/Rules.antt). One pass over each
+// table: the threads', which gathers who lives in a mask, so that "no dead thread holds a bit" is one test for each object.
+ghost use mathlib.Core.Path.{_≡_};
+ghost use mathlib.Core.Bool.{_||_};
+ghost use Prim.Native.Nat.{_<_};
+ghost use lib.Dec.{eqb, ltb};
+ghost use lib.ListN.{length};
+ghost use Rattle.domain_rules.specs.Scan.{allTo};
+ghost use Rattle.tables.specs.Table.{DOMAINS as DOMAINS·spec};
+ghost use Rattle.rules.specs.Rules.{isServed, serving, threadOk, judgedThreads, objectOk, objectAtOk, domainsSound, keepsTest};
+use tables::DOMAINS;
+use tables::HANDLES;
+use tables::Thread;
+
+// What the pass over the threads finds: whether each keeps its rules, and who lives, bit t for thread t.
+struct Judged {
+    ok: bool,
+    live: u64,
+}
+
+fn is_served(set256: [u64; 4], h: u32) -> bool
+    requires { ⌜ h < 256 ⌝ }
+    ensures { λ r. ⌜ r ≡ isServed set256 h ⌝ }
+{
+    let i = (h / 64) as usize;
+    (set256[i] >> (h % 64)) % 2 == 1
+}
+
+fn with_served(mut set256: [u64; 4], h: u32) -> [u64; 4]
+    requires { ⌜ h < 256 ⌝ }
+    ensures { λ r. ⌜ r ≡ serving set256 h ⌝ }
+{
+    let i = (h / 64) as usize;
+    let word = set256[i];
+    set256[i] = word | (1u64 << (h % 64));
+    set256
+}
+
+// A thread's own rules; that no other has its handle is the pass's to see.
+fn thread_ok(objects: &[u64], r: Thread) -> bool
+    ensures { λ r2. ⌜ r2 ≡ threadOk (now (objects .entry)) r ⌝ }
+{
+    if r.role == 0 {
+        if r.domain == 0 {
+            return r.handle == 0;
+        }
+        return false;
+    }
+    if 2 < r.role {
+        return false;
+    }
+    if home_ok(r.domain) {
+        if r.handle < HANDLES {
+            let o = tables::load_object(objects, r.handle);
+            return o.obj_type == 1;
+        }
+    }
+    false
+}
+
+fn home_ok(d: u32) -> bool
+    ensures { λ r. ⌜ r ≡ ltb d DOMAINS·spec || eqb d 255 ⌝ }
+{
+    if d < DOMAINS {
+        return true;
+    }
+    d == 255
+}
+
+// One pass: each thread's own rules, no handle served twice, and the mask of the live ones for the pass over the objects.
+fn judge_threads(objects: &[u64], threads: &[u32]) -> Judged
+    ensures { λ r. ⌜ r ≡ judgedThreads (now (objects .entry)) (now (threads .entry)) ⌝ }
+{
+    let mut live: u64 = 0;
+    let mut served = [0u64; 4];
+    let mut t: u32 = 0;
+    while t < 64 {
+        let r = tables::load_thread(threads, t);
+        if !thread_ok(objects, r) {
+            return Judged { ok: false, live: 0 };
+        }
+        if r.role != 0 {
+            if is_served(served, r.handle) {
+                return Judged { ok: false, live: 0 };
+            }
+            let next = with_served(served, r.handle);
+            served = next;
+            live = live | (1u64 << t);
+        }
+        t += 1;
+    }
+    Judged { ok: true, live }
+}
+
+// The raw head is judged, before a record is made of it; that no dead thread holds a bit is one test.
+fn object_ok(live: u64, head: u64, word: u64) -> bool
+    ensures { λ r. ⌜ r ≡ objectOk live head word ⌝ }
+{
+    if head % 256 == 0 {
+        if head == 0 {
+            return word == 0;
+        }
+        return false;
+    }
+    if 15 < head % 256 {
+        return false;
+    }
+    if 15 < head / 256 {
+        return false;
+    }
+    word & live == word
+}
+
+fn objects_ok(objects: &[u64], live: u64) -> bool
+    requires { ⌜ length (now objects) ≡ 512 ⌝ }
+    ensures { λ r. ⌜ r ≡ allTo (objectAtOk (now (objects .entry)) live) 256 ⌝ }
+{
+    let mut h: usize = 0;
+    while h < 256 {
+        let head = objects[2 * h];
+        let word = objects[2 * h + 1];
+        if !object_ok(live, head, word) {
+            return false;
+        }
+        h += 1;
+    }
+    true
+}
+
+fn domains_ok(slots: &[u32]) -> bool
+    ensures { λ r. ⌜ r ≡ domainsSound (now (slots .entry)) ⌝ }
+{
+    let mut d: u32 = 0;
+    while d < DOMAINS {
+        let m = tables::load_domain(slots, d);
+        if !domain_rules::is_sound(m) {
+            return false;
+        }
+        d += 1;
+    }
+    true
+}
+
+// Whether a state keeps document 01's rules: the tables of any length, with any content.
+pub fn keeps(objects: &[u64], threads: &[u32], slots: &[u32]) -> bool
+    ensures { λ r. ⌜ r ≡ keepsTest (now (objects .entry)) (now (threads .entry)) (now (slots .entry)) ⌝ }
+{
+    if objects.len() != 512 {
+        return false;
+    }
+    if threads.len() != 192 {
+        return false;
+    }
+    if slots.len() != 384 {
+        return false;
+    }
+    let j = judge_threads(objects, threads);
+    if !j.ok {
+        return false;
+    }
+    if !objects_ok(objects, j.live) {
+        return false;
+    }
+    domains_ok(slots)
+}

@@ -1,0 +1,178 @@
+// The state: three tables of numbers that the caller lends, and the records in them.
+// Every accessor is total: behind a table's end a load gives the all-zero record and a store does nothing, so nobody above has to be careful.
+// What stands above speaks of records and of `State` (specs/State.antt) and never of an offset.
+ghost use mathlib.Core.Path.{_≡_};
+ghost use Prim.Native.Nat.{_<_, _^_};
+ghost use lib.ListN.{getD, set};
+ghost use Rattle.tables.specs.Table.{objectAt, putObject, threadAt, putThread, partitionAt, putPartition, slotAt, putSlot, partitionsAt, domainAt, putDomain};
+use mem_domain::MemDomain;
+use mem_domain::MemPartition;
+use userspace::KernelObject;
+
+// The limits that no leaf has; 64 threads and 16 slots are userspace's and mem_domain's own.
+pub const HANDLES: u32 = 256;
+
+pub const DOMAINS: u32 = 8;
+
+const SLOTS: usize = 16;
+
+// A thread's record: role 0 dead, 1 user, 2 supervisor; domain 0..7 or 255 for none; the handle of its thread object.
+pub struct Thread {
+    pub role: u32,
+    pub domain: u32,
+    pub handle: u32,
+}
+
+fn at64(xs: &[u64], i: usize) -> u64
+    ensures { λ r. ⌜ r ≡ getD (now (xs .entry)) i 0 ⌝ }
+{
+    if i < xs.len() { xs[i] } else { 0 }
+}
+
+fn put64(xs: &mut [u64], i: usize, v: u64)
+    ensures { λ _. ⌜ now (xs .exit) ≡ set (now (xs .entry)) i v ⌝ }
+{
+    if i < xs.len() {
+        xs[i] = v;
+    }
+}
+
+fn at32(xs: &[u32], i: usize) -> u32
+    ensures { λ r. ⌜ r ≡ getD (now (xs .entry)) i 0 ⌝ }
+{
+    if i < xs.len() { xs[i] } else { 0 }
+}
+
+fn put32(xs: &mut [u32], i: usize, v: u32)
+    ensures { λ _. ⌜ now (xs .exit) ≡ set (now (xs .entry)) i v ⌝ }
+{
+    if i < xs.len() {
+        xs[i] = v;
+    }
+}
+
+pub fn load_object(objects: &[u64], h: u32) -> KernelObject
+    ensures { λ r. ⌜ r ≡ objectAt (now (objects .entry)) h ⌝ }
+{
+    let i = 2 * (h as usize);
+    let head = at64(objects, i);
+    let word = at64(objects, i + 1);
+    KernelObject {
+        obj_type: (head % 256) as u8,
+        flags: (head / 256 % 256) as u8,
+        word,
+    }
+}
+
+pub fn store_object(objects: &mut [u64], h: u32, o: KernelObject)
+    ensures { λ _. ⌜ now (objects .exit) ≡ putObject (now (objects .entry)) h o ⌝ }
+{
+    let i = 2 * (h as usize);
+    put64(objects, i, o.obj_type as u64 + 256 * (o.flags as u64));
+    put64(objects, i + 1, o.word);
+}
+
+pub fn load_thread(threads: &[u32], t: u32) -> Thread
+    ensures { λ r. ⌜ r ≡ threadAt (now (threads .entry)) t ⌝ }
+{
+    let i = 3 * (t as usize);
+    Thread {
+        role: at32(threads, i),
+        domain: at32(threads, i + 1),
+        handle: at32(threads, i + 2),
+    }
+}
+
+pub fn store_thread(threads: &mut [u32], t: u32, r: Thread)
+    ensures { λ _. ⌜ now (threads .exit) ≡ putThread (now (threads .entry)) t r ⌝ }
+{
+    let i = 3 * (t as usize);
+    put32(threads, i, r.role);
+    put32(threads, i + 1, r.domain);
+    put32(threads, i + 2, r.handle);
+}
+
+// Partition number 16 d + k is slot k of domain d.
+fn load_partition(slots: &[u32], n: usize) -> MemPartition
+    requires { ⌜ n < 2 ^ 40 ⌝ }
+    ensures { λ r. ⌜ r ≡ partitionAt (now (slots .entry)) n ⌝ }
+{
+    let i = 3 * n;
+    MemPartition {
+        start: at32(slots, i),
+        size: at32(slots, i + 1),
+        attr: at32(slots, i + 2),
+    }
+}
+
+fn store_partition(slots: &mut [u32], n: usize, p: MemPartition)
+    requires { ⌜ n < 2 ^ 40 ⌝ }
+    ensures { λ _. ⌜ now (slots .exit) ≡ putPartition (now (slots .entry)) n p ⌝ }
+{
+    let i = 3 * n;
+    put32(slots, i, p.start);
+    put32(slots, i + 1, p.size);
+    put32(slots, i + 2, p.attr);
+}
+
+pub fn load_slot(slots: &[u32], d: u32, k: u32) -> MemPartition
+    ensures { λ r. ⌜ r ≡ slotAt (now (slots .entry)) d k ⌝ }
+{
+    if 16 <= k {
+        return MemPartition {
+            start: 0,
+            size: 0,
+            attr: 0,
+        };
+    }
+    load_partition(slots, SLOTS * (d as usize) + k as usize)
+}
+
+pub fn store_slot(slots: &mut [u32], d: u32, k: u32, p: MemPartition)
+    ensures { λ _. ⌜ now (slots .exit) ≡ putSlot (now (slots .entry)) d k p ⌝ }
+{
+    if k < 16 {
+        store_partition(slots, SLOTS * (d as usize) + k as usize, p);
+    }
+}
+
+fn partitions_at(slots: &[u32], d: u32) -> [MemPartition; SLOTS]
+    ensures { λ r. ⌜ r ≡ partitionsAt (now (slots .entry)) d ⌝ }
+{
+    let empty = MemPartition {
+        start: 0,
+        size: 0,
+        attr: 0,
+    };
+    let first = SLOTS * (d as usize);
+    let mut parts = [empty; SLOTS];
+    let mut k = 0;
+    while k < SLOTS {
+        parts[k] = load_partition(slots, first + k);
+        k += 1;
+    }
+    parts
+}
+
+pub fn load_domain(slots: &[u32], d: u32) -> MemDomain
+    ensures { λ r. ⌜ r ≡ domainAt (now (slots .entry)) d ⌝ }
+{
+    let partitions = partitions_at(slots, d);
+    let m = MemDomain {
+        partitions,
+        num_partitions: 0,
+    };
+    m.counted()
+}
+
+pub fn store_domain(slots: &mut [u32], d: u32, m: MemDomain)
+    ensures { λ _. ⌜ now (slots .exit) ≡ putDomain (now (slots .entry)) d m ⌝ }
+{
+    let base = SLOTS * (d as usize);
+    let mut k = 0;
+    while k < SLOTS {
+        let p = m.partitions[k];
+        store_partition(slots, base + k, p);
+        k += 1;
+    }
+}
