@@ -11,6 +11,7 @@ use lib.ListN.{length, List·getD-eq-default}
 use borrow.Author.Tests.{eqb-true, eq-eqb}
 use Rattle.mem_domain.specs.Partition.{empty, isFree, isActive, isValid, overlapOf}
 use Rattle.mem_domain.specs.Domain.{slots, slotAt, activeCount, withCount}
+use Rattle.domain_rules.specs.Scan.{allTo}
 use Rattle.domain_rules.specs.Sound.{SlotsKeep, attrOk, slotOk, apartOf, apartTo, slotSound, slotsSound, domainSound}
 use Rattle.mem_domain.specs.declared.MemPartition.{MemPartition}
 use Rattle.domain_rules.proofs.All.{both-true, both, either-true, or-left, or-right, isnt-true, all-at, all-from}
@@ -74,6 +75,13 @@ apart-ok p q f = go (isFree p) (isFree q) (overlapOf p q) f
     go false true z f = refl
     go false false true f = absurd (f refl refl refl)
     go false false false f = refl
+
+-- a free slot is apart from every other
+pub free-apart : (p q : MemPartition) → q .size ≡ 0 → apartOf p q ≡ true
+free-apart p q z = apart-ok p q (λ a b o. false≢true (sym (ap not (eq-eqb (q .size) 0 z)) ∙ b))
+
+pub free-clear : (f : ℕ → MemPartition) (q : MemPartition) (n : ℕ) → q .size ≡ 0 → allTo (λ j. apartOf (f j) q) n ≡ true
+free-clear f q n z = all-from (λ j. apartOf (f j) q) n (λ j h. free-apart (f j) q z)
 
 -- ---- sixteen
 module _ (l : List MemPartition) where

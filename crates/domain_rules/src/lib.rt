@@ -1,5 +1,6 @@
-// The rules of a memory domain, and the one function that judges a record by them. The domain leaf takes any record literally; what plans,
-// checks and stores domains (mpu, planner, tables) answers VALUE by this. Promised: `is_sound` says true exactly when document 01's rules hold.
+// The rules of a memory domain, and the function that judges a record by them. The domain leaf takes any record literally; what plans, checks and
+// stores domains answers VALUE by this. Promised: `is_sound` says true exactly when document 01's rules hold (proofs/Sound.antt). The tests of one slot
+// and of two are public too, for the pass over a whole table of domains, which copies no domain.
 ghost use mathlib.Core.Path.{_≡_};
 ghost use Prim.Native.Nat.{_<_};
 ghost use Rattle.domain_rules.specs.Sound.{attrOk, slotOk, apartOf, apartTo, slotSound, slotsSound, domainSound};
@@ -20,7 +21,8 @@ fn attr_ok(attr: u32) -> bool
     }
 }
 
-fn slot_ok(p: MemPartition) -> bool
+// One slot by itself: a free one is all zero, an active one is valid with an allowed attr.
+pub fn slot_ok(p: MemPartition) -> bool
     ensures { λ r. ⌜ r ≡ slotOk p ⌝ }
 {
     if p.size == 0 {
@@ -35,7 +37,8 @@ fn slot_ok(p: MemPartition) -> bool
     false // no window of addresses
 }
 
-fn is_apart(p: MemPartition, q: MemPartition) -> bool
+// Two slots: they are not both active and overlapping.
+pub fn is_apart(p: MemPartition, q: MemPartition) -> bool
     ensures { λ r. ⌜ r ≡ apartOf p q ⌝ }
 {
     if p.size == 0 {
@@ -71,6 +74,9 @@ fn slot_sound(domain: MemDomain, k: usize) -> bool
 {
     let p = domain.partitions[k];
     if slot_ok(p) {
+        if p.size == 0 {
+            return true;
+        }
         return is_clear(domain, k);
     }
     false

@@ -1,4 +1,5 @@
 pub mod Bits
 pub mod Rules
 pub mod Pass
+pub mod Slots
 pub mod Unique

@@ -10,12 +10,13 @@ use lib.Dec.{eqb, ltb, leb}
 use lib.ListN.{length, getD, set}
 use Rattle.domain_rules.specs.Scan.{allTo}
 use Rattle.mem_domain.specs.Domain.{slots as SLOTS}
-use Rattle.domain_rules.specs.Sound.{SlotsKeep, slotsSound}
+use Rattle.domain_rules.specs.Sound.{SlotsKeep, slotOk, apartOf, slotsSound}
+use Rattle.mem_domain.specs.declared.MemPartition.{MemPartition}
 use Rattle.userspace.specs.Bit.{isSet, setBit}
 use Rattle.userspace.specs.Userspace.{THREADS}
 use Rattle.tables.specs.declared.Thread.{Thread}
 use Rattle.rules.specs.declared.Judged.{Judged}
-use Rattle.tables.specs.Table.{HANDLES, DOMAINS, noObject, nobody, objectAt, threadAt, partitionsAt}
+use Rattle.tables.specs.Table.{HANDLES, DOMAINS, noObject, nobody, objectAt, threadAt, partitionAt, partitionsAt}
 use Rattle.tables.specs.State.{State, stateOf, object, thread, domain, Fit}
 
 -- a thread lives unless its role is 0; role 2 is a supervisor
@@ -103,6 +104,14 @@ isServed set256 h = isSet (getD set256 (h / 64) 0) (h % 64)
 -- the set with handle h
 unfoldable pub serving : List ℕ → ℕ → List ℕ
 serving set256 h = set set256 (h / 64) (setBit (getD set256 (h / 64) 0) (h % 64))
+
+-- partition q overlaps none of the n from first on
+abbrev pub clearTo : List ℕ → ℕ → MemPartition → ℕ → Bool
+clearTo ss first q = allTo (λ j. apartOf (partitionAt ss (first + j)) q)
+
+-- slot k of the domain whose partitions begin at first
+unfoldable pub slotFine : List ℕ → ℕ → ℕ → Bool
+slotFine ss first k = slotOk (partitionAt ss (first + k)) && clearTo ss first (partitionAt ss (first + k)) k
 
 -- what the pass over the threads finds: whether all keep their rules, and the mask of the live ones
 abbrev pub failing : Judged

@@ -3,12 +3,15 @@
 // table: the threads', which gathers who lives in a mask, so that "no dead thread holds a bit" is one test for each object.
 ghost use mathlib.Core.Path.{_≡_};
 ghost use mathlib.Core.Bool.{_||_};
-ghost use Prim.Native.Nat.{_<_};
+ghost use Prim.Native.Nat.{_+_, _*_, _<_, _≤_};
 ghost use lib.Dec.{eqb, ltb};
 ghost use lib.ListN.{length};
 ghost use Rattle.domain_rules.specs.Scan.{allTo};
+ghost use Rattle.domain_rules.specs.Sound.{slotsSound};
 ghost use Rattle.tables.specs.Table.{DOMAINS as DOMAINS·spec};
-ghost use Rattle.rules.specs.Rules.{isServed, serving, threadOk, judgedThreads, objectOk, objectAtOk, domainsSound, keepsTest};
+ghost use Rattle.tables.specs.Table.{partitionAt, partitionsAt};
+ghost use Rattle.rules.specs.Rules.{isServed, serving, threadOk, judgedThreads, objectOk, objectAtOk, clearTo, slotFine, domainsSound, keepsTest};
+use mem_domain::MemPartition;
 use tables::DOMAINS;
 use tables::HANDLES;
 use tables::Thread;
@@ -128,13 +131,72 @@ fn objects_ok(objects: &[u64], live: u64) -> bool
     true
 }
 
+// Partition n of the table, within it: the pass over the slots tests no index.
+fn partition_in(slots: &[u32], n: usize) -> MemPartition
+    requires { ⌜ 3 * n + 2 < length (now slots) ⌝ }
+    ensures { λ r. ⌜ r ≡ partitionAt (now (slots .entry)) n ⌝ }
+{
+    let i = 3 * n;
+    MemPartition {
+        start: slots[i],
+        size: slots[i + 1],
+        attr: slots[i + 2],
+    }
+}
+
+// Whether slot q overlaps none of the k partitions from first on.
+fn is_clear(slots: &[u32], first: usize, k: usize, q: MemPartition) -> bool
+    requires { ⌜ (first + k ≤ 128) × (length (now slots) ≡ 384) ⌝ }
+    ensures { λ r. ⌜ r ≡ clearTo (now (slots .entry)) first q k ⌝ }
+{
+    let mut j = 0;
+    while j < k {
+        let p = partition_in(slots, first + j);
+        if !domain_rules::is_apart(p, q) {
+            return false;
+        }
+        j += 1;
+    }
+    true
+}
+
+// A free slot overlaps nothing: only pairs of active slots are looked at.
+fn slot_fine(slots: &[u32], first: usize, k: usize) -> bool
+    requires { ⌜ (first + k < 128) × (length (now slots) ≡ 384) ⌝ }
+    ensures { λ r. ⌜ r ≡ slotFine (now (slots .entry)) first k ⌝ }
+{
+    let q = partition_in(slots, first + k);
+    if !domain_rules::slot_ok(q) {
+        return false;
+    }
+    if q.size == 0 {
+        return true;
+    }
+    is_clear(slots, first, k, q)
+}
+
+fn domain_fine(slots: &[u32], d: usize) -> bool
+    requires { ⌜ (d < 8) × (length (now slots) ≡ 384) ⌝ }
+    ensures { λ r. ⌜ r ≡ slotsSound (partitionsAt (now (slots .entry)) d) ⌝ }
+{
+    let first = 16 * d;
+    let mut k = 0;
+    while k < 16 {
+        if !slot_fine(slots, first, k) {
+            return false;
+        }
+        k += 1;
+    }
+    true
+}
+
 fn domains_ok(slots: &[u32]) -> bool
+    requires { ⌜ length (now slots) ≡ 384 ⌝ }
     ensures { λ r. ⌜ r ≡ domainsSound (now (slots .entry)) ⌝ }
 {
-    let mut d: u32 = 0;
-    while d < DOMAINS {
-        let m = tables::load_domain(slots, d);
-        if !domain_rules::is_sound(m) {
+    let mut d: usize = 0;
+    while d < 8 {
+        if !domain_fine(slots, d) {
             return false;
         }
         d += 1;

@@ -1,6 +1,6 @@
 // Runs a stored list of steps over three tables and prints what is loaded and how the state is judged. The list stands in `stdin`, four
 // little-endian words to a step: its number, a place, and two words of a value. tests/tables.py makes it, and works out `stdout` by a model.
-ghost use Prim.Native.Nat.{_<_};
+ghost use Prim.Native.Nat.{_+_, _<_, _≤_};
 use libc::STDOUT_FILENO;
 use mem_domain::MemPartition;
 use tables::Thread;
@@ -53,6 +53,7 @@ fn step(
         9 => store_thread(threads, a, b, c),
         10 => store_slot(slots, a, b, c),
         11 => move_domain(slots, a, b),
+        12 => again(objects, threads, slots, a, b, c),
         _ => word(b"?\n"),
     }
 }
@@ -148,6 +149,34 @@ fn store_slot(slots: &mut [u32], a: u32, b: u32, c: u32) {
 fn move_domain(slots: &mut [u32], a: u32, b: u32) {
     let m = tables::load_domain(slots, a);
     tables::store_domain(slots, b, m);
+}
+
+// Judges the state a times, for the benchmark; number b of the objects is c in every other round, so that no round can be left out.
+fn again(objects: &mut [u64], threads: &[u32], slots: &[u32], a: u32, b: u32, c: u32) {
+    let mut good: u64 = 0;
+    let mut k: u32 = 0;
+    while k < a {
+        good = round(objects, threads, slots, b, every_other(k, c), good);
+        k += 1;
+    }
+    figure(good);
+    word(b"\n");
+}
+
+fn every_other(k: u32, c: u32) -> u32 {
+    if k % 2 == 0 { 0 } else { c }
+}
+
+fn round(objects: &mut [u64], threads: &[u32], slots: &[u32], b: u32, c: u32, good: u64) -> u64
+    ensures { λ r. ⌜ r ≤ good + 1 ⌝ }
+{
+    set_object(objects, b, c, 0);
+    if rules::keeps(objects, threads, slots) {
+        if good < 4294967295 {
+            return good + 1;
+        }
+    }
+    good
 }
 
 fn truth(b: bool) {
