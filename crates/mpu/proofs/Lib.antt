@@ -1,0 +1,5 @@
+pub mod Table
+pub mod Words
+pub mod Slots
+pub mod Cover
+pub mod Plan

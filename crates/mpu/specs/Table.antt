@@ -1,0 +1,13 @@
+-- Tables read by number: the last of n entries that is on decides; a test that passes at each of n entries.
+use Prim.Native.Nat.{ℕ, zero, suc}
+use mathlib.Core.Bool.{Bool, true, cond, _&&_}
+
+-- the value of the highest-numbered entry below n that is on, and 0 where none is
+unfoldable pub lastOf : (ℕ → Bool) → (ℕ → ℕ) → ℕ → ℕ
+lastOf on val zero = 0
+lastOf on val (suc k) = cond (on k) (val k) (lastOf on val k)
+
+-- the test passes at each number below n
+unfoldable pub allTo : (ℕ → Bool) → ℕ → Bool
+allTo f zero = true
+allTo f (suc k) = allTo f k && f k
