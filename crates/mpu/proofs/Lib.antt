@@ -1,5 +1,8 @@
+pub mod Unique
 pub mod Table
 pub mod Words
 pub mod Slots
 pub mod Cover
 pub mod Plan
+pub mod Exact
+pub mod Cases
