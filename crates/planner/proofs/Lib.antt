@@ -1,3 +1,4 @@
 pub mod Bits
 pub mod Filled
 pub mod Answers
+pub mod Right
