@@ -1,5 +1,5 @@
 -- Laws of tables read by number: which entry decides, and tests that pass at each entry.
-use Prim.Native.Nat.{ℕ, zero, suc, _+_, _≤_, _<_}
+use Prim.Native.Nat.{ℕ, zero, suc, _+_, _-_, _≤_, _<_}
 use native.Mathlib.Numerals.{add-one}
 use mathlib.Core.Path.{_≡_, refl, sym, ap, _∙_}
 use mathlib.Core.Bool.{Bool, true, false, cond, _&&_, _||_, false≢true, true≢false, and-true, and-false}
@@ -133,3 +133,13 @@ both-false false b e = (refl, e)
 pub one-false : (a b : Bool) → a && b ≡ false → (a ≡ false) ⊎ (b ≡ false)
 one-false true b e = inr e
 one-false false b e = inl refl
+
+-- a loop from the last of n entries down, at its turn j: the entry is on, or it is not
+pub last-here : (f : ℕ → Bool) (val : ℕ → ℕ) (n j : ℕ) → j < n → f (n - 1 - j) ≡ true → lastOf f val (n - j) ≡ val (n - 1 - j)
+last-here f val n j h e = let s : n - j ≡ n - 1 - j + 1 = omega arith in rw s (last-on f val (n - 1 - j) e)
+
+pub last-down : (f : ℕ → Bool) (val : ℕ → ℕ) (n j : ℕ) → j < n → f (n - 1 - j) ≡ false → lastOf f val (n - j) ≡ lastOf f val (n - (j + 1))
+last-down f val n j h e =
+    let s : n - j ≡ n - 1 - j + 1 = omega arith in
+    let t : n - (j + 1) ≡ n - 1 - j = omega arith in
+    rw (s, t) (last-off f val (n - 1 - j) e)

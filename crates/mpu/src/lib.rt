@@ -105,20 +105,21 @@ fn rasr_at(plan: &[u32], k: usize) -> u32
     plan[k * 2 + 1]
 }
 
-// A later region takes the place of an earlier one, so that the highest-numbered decides.
+// From the highest-numbered region down: the first that holds the address decides.
 fn plan_rights(plan: &[u32], a: u64) -> u32
     ensures { λ r. ⌜ r ≡ rightsOfPlan (now (plan .entry)) a ⌝ }
 {
     let n = plan.len() / 2;
-    let mut r = 0;
-    let mut k = 0;
-    while k < n {
-        if region_holds(rbar_at(plan, k), rasr_at(plan, k), a) {
-            r = region_rights(rasr_at(plan, k));
+    let mut j = 0;
+    while j < n {
+        let k = n - 1 - j;
+        let rasr = rasr_at(plan, k);
+        if region_holds(rbar_at(plan, k), rasr, a) {
+            return region_rights(rasr);
         }
-        k += 1;
+        j += 1;
     }
-    r
+    0
 }
 
 fn slot_holds(p: MemPartition, a: u64) -> bool

@@ -156,6 +156,8 @@ fn refuse(code: u32) -> Answer
 pub fn plan(domain: MemDomain, regions: u32, out: &mut [u32]) -> Answer
     ensures { λ r. ⌜ Planned domain regions (now (out .entry)) (now (out .exit)) r ⌝ }
 {
+    let n = domain.num_partitions;
+    let words = n as usize * 2;
     if !mpu::is_sound(domain) {
         return refuse(answer::VALUE);
     }
@@ -165,11 +167,9 @@ pub fn plan(domain: MemDomain, regions: u32, out: &mut [u32]) -> Answer
     if !slots_fit(domain) {
         return refuse(answer::NOPLAN);
     }
-    let n = domain.num_partitions;
     if n > regions {
         return refuse(answer::NOPLAN);
     }
-    let words = n as usize * 2;
     if words > out.len() {
         return refuse(answer::ROOM);
     }
