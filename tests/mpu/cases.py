@@ -135,6 +135,12 @@ def checked(active, words, count=None):
     return case(1, full(active), len([s for s in active if s[1]]) if count is None else count, 0, words)
 
 
+def again(active, words, rounds):
+    """The bytes of a check that is done a number of times, for bench/mpu."""
+    flat = [3, len(words), rounds, len(active)] + [n for s in full(active) for n in s] + padded(words)
+    return struct.pack('<86I', *flat)
+
+
 def planned(active, regions, room, count=None):
     lent = [0x1000 + k for k in range(room)]
     return case(2, full(active), len([s for s in active if s[1]]) if count is None else count, regions, lent)

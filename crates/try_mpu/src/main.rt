@@ -1,5 +1,5 @@
-// Runs cases over the checker and the planner and prints each answer. A case is 86 little-endian words: 1 to check or 2 to plan, the
-// number of words lent, the number of regions, the record's count, its sixteen slots of start, size and attr, and 34 words of plan
+// Runs cases over the checker and the planner and prints each answer. A case is 86 little-endian words: 1 to check, 2 to plan or 3 to check
+// again and again (bench/mpu), the number of words lent, the number of regions or of rounds, the record's count, its sixteen slots of start, size and attr, and 34 words of plan
 // or of what lies in the lent run before. tests/mpu/cases.py makes cases, and works out the answers by a model.
 ghost use Prim.Native.Nat.{_<_};
 use answer::Answer;
@@ -33,11 +33,17 @@ fn one() -> bool {
     if lent > 34 {
         return false;
     }
-    if number(&case, 0) == 1 {
+    let op = number(&case, 0);
+    let n = number(&case, 8);
+    if op == 1 {
         check(domain(&case), words(&case), lent);
-    } else {
-        plan(domain(&case), number(&case, 8), words(&case), lent);
+        return true;
     }
+    if op == 2 {
+        plan(domain(&case), n, words(&case), lent);
+        return true;
+    }
+    again(domain(&case), words(&case), lent, n);
     true
 }
 
@@ -47,6 +53,28 @@ fn check(d: MemDomain, words: [u32; 34], lent: usize)
     word(b"check ");
     answered(mpu::check(d, &words[..lent]));
     word(b"\n");
+}
+
+// The same check a number of times. Each answer goes into the next round's plan, where an OK changes nothing, so that no round can be left out.
+fn again(d: MemDomain, words: [u32; 34], lent: usize, rounds: u32)
+    requires { ⌜ lent < 35 ⌝ }
+{
+    let mut w = words;
+    let mut left = rounds;
+    while left > 0 {
+        w[0] |= code_of(d, w, lent);
+        left -= 1;
+    }
+    word(b"again ");
+    figure(code_of(d, w, lent));
+    word(b"\n");
+}
+
+fn code_of(d: MemDomain, words: [u32; 34], lent: usize) -> u32
+    requires { ⌜ lent < 35 ⌝ }
+{
+    let r = mpu::check(d, &words[..lent]);
+    r.code
 }
 
 // The lent run is printed as it is afterwards, the words behind it too.
