@@ -1,10 +1,10 @@
 -- The architecture's tables, row by row as document 01 gives them.
-use Prim.Native.Nat.{ℕ, _+_}
+use Prim.Native.Nat.{_+_}
 use mathlib.Core.Path.{_≡_, refl}
-use mathlib.Core.Bool.{Bool, true, false}
-use mathlib.Core.List.{List, [], _∷_}
-use Rattle.mpu.specs.Table.{lastOf, allTo}
-use Rattle.mpu.specs.Mpu.{baseOf, sizeOf, apRights, withExecute, regionRights, regionHolds, placeOk, reservedOk, regionOk, planOk, rightsOfPlan}
+use mathlib.Core.Bool.{true, false}
+use mathlib.Core.List.{[], _∷_}
+use Rattle.mpu.specs.Table.{lastOf}
+use Rattle.mpu.specs.Mpu.{baseOf, sizeOf, apRights, withExecute, regionRights, regionHolds, placeOk, reservedOk, regionOk, rightsOfPlan}
 
 -- unprivileged rights of all eight AP values: 1 read, 2 write
 pub ap-0-none : apRights 0 ≡ 0

@@ -1,9 +1,9 @@
 -- The cover theorem. Two things that are asked at every address, and that change at cut points only, are equal everywhere once they are equal at
 -- 0 and at every cut. The cut points are any test, so that sub-regions and regions of another architecture are cut by it as well.
-use Prim.Native.Nat.{ℕ, zero, suc, _+_, _≤_, _<_}
-use mathlib.Core.Path.{_≡_, refl, sym, ap, ap₂, _∙_}
+use Prim.Native.Nat.{ℕ, zero, suc, _<_}
+use mathlib.Core.Path.{_≡_, refl, sym, ap₂, _∙_}
 use mathlib.Core.Bool.{Bool, true, false, not, _&&_}
-use mathlib.Core.Logic.{by-cases, ⊎-elim, _⊎_, inl, inr}
+use mathlib.Core.Logic.{by-cases, _⊎_, inl, inr}
 use native.Mathlib.Decide.{decLe}
 use native.Mathlib.Omega.{arith}
 use borrow.Author.Tests.{le-leb, lt-leb, lt-ltb, le-ltb, eqb-true, eqb-false, not-true, not-false}

@@ -1,6 +1,6 @@
 -- When the checker gives which answer, in words about every address: each answer exactly when its sentence holds.
 use Prim.Native.Nat.{ℕ, _<_}
-use mathlib.Core.Path.{_≡_, refl, sym, ap, _∙_}
+use mathlib.Core.Path.{_≡_, refl, ap}
 use mathlib.Core.List.{List}
 use mathlib.Core.Bool.{Bool, true, false, cond, not, _&&_}
 use native.Mathlib.Omega.{arith}
@@ -11,7 +11,7 @@ use Rattle.mem_domain.specs.declared.MemPartition.{MemPartition}
 use Rattle.mem_domain.specs.declared.MemDomain.{MemDomain}
 use Rattle.mpu.specs.Sound.{domainSound}
 use Rattle.mpu.specs.Mpu.{planOk, rightsOfPlan, rightsOfDomain, agreeAt, addresses, sameRights, plain, checked}
-use Rattle.mpu.proofs.Table.{all-at, all-of, all-false, all-fails, both-true}
+use Rattle.mpu.proofs.Table.{all-at, all-of, all-false, all-fails}
 
 -- at every address the plan gives what the domain gives
 abbrev pub Equal : List MemPartition → List ℕ → Type 0

@@ -1,17 +1,15 @@
 -- The edges stand for every address: what the code looks at comes to what the definition says, by the cover theorem.
-use Prim.Native.Nat.{ℕ, suc, _+_, _*_, _/_, _%_, _^_, _<_, _≤_}
-use mathlib.Core.Path.{_≡_, refl, sym, ap, _∙_}
+use Prim.Native.Nat.{ℕ, suc, _+_, _%_, _<_}
+use mathlib.Core.Path.{_≡_, refl, sym, ap}
 use mathlib.Core.List.{List}
 use mathlib.Core.Bool.{Bool, true, false, _&&_, _||_}
 use mathlib.Core.Logic.{⊎-elim, _⊎_, inl, inr}
-use native.Mathlib.Omega.{arith}
 use borrow.Author.Tests.{lt-leb, leb-false, eqb-true, eq-eqb}
 use lib.Dec.{leb, eqb}
-use lib.ListN.{length}
 use Rattle.mem_domain.specs.Partition.{endOf, isActive, holds}
-use Rattle.mem_domain.specs.Domain.{slots, slotAt, holdsAt}
+use Rattle.mem_domain.specs.Domain.{slots, slotAt}
 use Rattle.mem_domain.specs.declared.MemPartition.{MemPartition}
-use Rattle.mpu.specs.Mpu.{within, baseOf, sizeOf, topOf, rbarAt, rasrAt, regionsOf, regionHolds, rightsOfPlan, rightsOfDomain, agreeAt, addresses, sameRights}
+use Rattle.mpu.specs.Mpu.{baseOf, topOf, rbarAt, rasrAt, regionsOf, regionHolds, rightsOfPlan, rightsOfDomain, agreeAt, addresses, sameRights}
 use Rattle.mpu.specs.Edges.{edgeAgrees, endsAgree, slotsTo, regionsTo, edgesAgree}
 use Rattle.mpu.proofs.Table.{last-same, all-at, all-of, all-false, all-fails, both-true, both-false, one-false, any-true}
 use Rattle.mpu.proofs.Cover.{Steps, cover, isEnd, windows-same, end-of}

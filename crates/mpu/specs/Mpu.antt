@@ -85,9 +85,13 @@ okTo plan = allTo (λ k. regionOk (rbarAt plan k) (rasrAt plan k) k)
 abbrev pub regionsOf : List ℕ → ℕ
 regionsOf plan = length plan / 2
 
+-- at most 16 regions
+abbrev pub maxRegions : ℕ
+maxRegions = 16
+
 -- no odd word count, at most 16 regions, each well formed
 unfoldable pub planOk : List ℕ → Bool
-planOk plan = eqb (length plan % 2) 0 && (leb (length plan) 32 && okTo plan (regionsOf plan))
+planOk plan = eqb (length plan % 2) 0 && (leb (length plan) (maxRegions * 2) && okTo plan (regionsOf plan))
 
 -- of the first n regions the highest-numbered enabled one that holds the address decides; none gives nothing
 abbrev pub planTo : List ℕ → ℕ → ℕ → ℕ

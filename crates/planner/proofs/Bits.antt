@@ -1,9 +1,8 @@
 -- A number with one set digit is the power of two that its trailing zeros say; and the SIZE of a power of two.
-use Prim.Native.Nat.{ℕ, zero, suc, _+_, _*_, _/_, _%_, _^_, _-_, _<_, _≤_}
+use Prim.Native.Nat.{ℕ, zero, suc, _+_, _/_, _%_, _^_, _-_, _<_, _≤_}
 use mathlib.Core.Path.{_≡_, refl, sym, ap, _∙_}
-use mathlib.Core.Bool.{Bool, true, false, true≢false, false≢true}
 use mathlib.Core.Logic.{by-cases}
-use native.Mathlib.Nat.{not-suc-le-zero, le-refl, pow-suc, one-mul, add-zero}
+use native.Mathlib.Nat.{pow-suc, one-mul, add-zero}
 use native.Mathlib.Numerals.{add-one}
 use native.Mathlib.Decide.{decLt}
 use native.Mathlib.Omega.{arith}
@@ -11,7 +10,6 @@ use borrow.Author.Tests.{eq-eqb, ne-eqb, eqb-true}
 use lib.Dec.{eqb}
 use lib.Pow.{pow-lt, pow-pos}
 use lib.Count.{ones, ones-step, ones-le, ones-cat, trailingZeros, trailing-le, under}
-use Rattle.mpu.specs.Table.{lastOf}
 use Rattle.mpu.proofs.Table.{last-finds, last-none, last-hit}
 use Rattle.planner.specs.Planner.{fieldFor}
 

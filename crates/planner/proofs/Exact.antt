@@ -1,27 +1,27 @@
 -- The planner's promises in document 01's words: what it hands out is accepted by the checker, and NOPLAN exactly where it must say so.
-use Prim.Native.Nat.{ℕ, _+_, _*_, _%_, _^_, _<_, _≤_}
-use mathlib.Core.Path.{_≡_, refl, sym, ap, _∙_}
-use mathlib.Core.List.{List, _++_}
+use Prim.Native.Nat.{ℕ, _+_, _%_, _^_, _<_, _≤_}
+use mathlib.Core.Path.{_≡_, refl, ap}
+use mathlib.Core.List.{List}
 use mathlib.Core.Bool.{Bool, true, false, cond, not, _||_}
 use mathlib.Core.Logic.{_⊎_, inl, inr}
 use native.Mathlib.Omega.{arith}
-use borrow.Author.Tests.{ltb-true, ltb-false, le-ltb, lt-ltb, le-leb, eq-eqb}
-use lib.Dec.{ltb, leb, eqb}
+use borrow.Author.Tests.{ltb-true, ltb-false, le-leb, eq-eqb}
+use lib.Dec.{ltb}
 use lib.ListN.{length, take, drop}
 use lib.Seq.{take-at}
 use Rattle.answer.specs.Answer.{numberOf}
 use Rattle.answer.specs.declared.Answer.{Answer}
 use Rattle.answer.specs.declared.Code.the-variants.{Ok, Einval, Value, Noplan, Room}
-use Rattle.mem_domain.specs.Partition.{isFree, isActive}
-use Rattle.mem_domain.specs.Domain.{slots, slotAt, activeCount}
+use Rattle.mem_domain.specs.Partition.{isFree}
+use Rattle.mem_domain.specs.Domain.{slotAt, activeCount}
 use Rattle.mem_domain.specs.declared.MemPartition.{MemPartition}
 use Rattle.mem_domain.specs.declared.MemDomain.{MemDomain}
 use Rattle.mpu.specs.Sound.{domainSound}
 use Rattle.mpu.specs.Mpu.{plain, checked}
 use Rattle.mpu.proofs.Table.{all-false, all-fails, both-false}
-use Rattle.planner.specs.Planner.{fieldFor, isRegion, slotFits, slotsFit, planOf, wordCount, planned, wordsAfter}
+use Rattle.planner.specs.Planner.{isRegion, slotFits, slotsFit, planOf, wordCount, planned, wordsAfter}
 use Rattle.planner.proofs.Bits.{field-of}
-use Rattle.planner.proofs.Filled.{Slot, plan-length}
+use Rattle.planner.proofs.Filled.{plan-length}
 use Rattle.planner.proofs.Answers.{unfit, few, good}
 use Rattle.planner.proofs.Right.{accepted}
 

@@ -1,19 +1,19 @@
 -- The planner's loop: the words of the first k slots, and behind them what was there.
 use Prim.Native.Nat.{ℕ, zero, suc, _+_, _*_, _%_, _^_, _-_, _<_, _≤_}
-use mathlib.Core.Path.{_≡_, refl, sym, ap, _∙_}
+use mathlib.Core.Path.{_≡_, refl, sym, _∙_}
 use mathlib.Core.List.{List, [], _∷_, _++_, append-assoc}
-use mathlib.Core.Bool.{Bool, true, false, cond, _&&_, _||_, not}
+use mathlib.Core.Bool.{Bool, true, false, cond}
 use native.Mathlib.Nat.{le-refl, dvd-trans, dvd-of-mod-eq-zero, mod-eq-zero-of-dvd, dvd-mul-left}
 use native.Mathlib.Numerals.{add-one}
 use native.Mathlib.Decide.{le-ind}
 use native.Mathlib.Omega.{arith}
 use borrow.Author.Tests.{eqb-true, leb-true}
-use lib.Dec.{eqb, leb}
+use lib.Dec.{eqb}
 use lib.Pow.{pow-add}
 use lib.ListN.{length, drop, set, length-append}
 use lib.Seq.{drop-cons, set-at, append-snoc}
 use Rattle.mem_domain.specs.Scan.{countTo}
-use Rattle.mem_domain.specs.Partition.{isFree, isActive}
+use Rattle.mem_domain.specs.Partition.{isActive}
 use Rattle.mem_domain.specs.Domain.{slots, slotAt, activeTo, activeCount}
 use Rattle.mem_domain.specs.declared.MemPartition.{MemPartition}
 use Rattle.mem_domain.specs.declared.MemDomain.{MemDomain}

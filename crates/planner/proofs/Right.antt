@@ -1,30 +1,29 @@
 -- Every plan that the planner makes is accepted by the checker for the domain it was made from: it is well formed, and gives what the domain
 -- gives at every address.
 use Prim.Native.Nat.{ℕ, zero, suc, _+_, _*_, _/_, _%_, _^_, _-_, _<_, _≤_}
-use mathlib.Core.Path.{_≡_, refl, sym, ap, ap₂, _∙_}
+use mathlib.Core.Path.{_≡_, refl, ap, ap₂, _∙_}
 use mathlib.Core.List.{List, [], _∷_, _++_}
 use mathlib.Core.Bool.{Bool, true, false, cond, _&&_, _||_, not}
-use mathlib.Core.Logic.{_⊎_, inl, inr}
+use mathlib.Core.Logic.{inl, inr}
 use native.Mathlib.Nat.{le-refl, add-zero}
-use native.Mathlib.Numerals.{add-one}
 use native.Mathlib.Omega.{arith}
-use borrow.Author.Tests.{eqb-true, eq-eqb, le-leb, not-true, not-false}
-use lib.Dec.{eqb, leb, ltb}
-use lib.ListN.{length, getD, length-append, List·getD-append}
+use borrow.Author.Tests.{eqb-true, eq-eqb, le-leb, not-true}
+use lib.Dec.{eqb}
+use lib.ListN.{length, List·getD-append}
 use lib.Seq.{getD-append-add, getD-at}
 use Rattle.answer.specs.declared.Code.the-variants.{Ok}
 use Rattle.mem_domain.specs.Scan.{countTo}
-use Rattle.mem_domain.specs.Partition.{isFree, isActive, isValid, endOf, holds}
-use Rattle.mem_domain.specs.Domain.{slots, slotAt, activeTo, activeCount, holdsAt}
+use Rattle.mem_domain.specs.Partition.{isActive, isValid, holds}
+use Rattle.mem_domain.specs.Domain.{slotAt, activeTo, activeCount}
 use Rattle.mem_domain.specs.declared.MemPartition.{MemPartition}
 use Rattle.mem_domain.specs.declared.MemDomain.{MemDomain}
 use Rattle.mpu.specs.Table.{lastOf, allTo}
 use Rattle.mpu.specs.Sound.{attrOk, slotOk, apartTo, slotSound, slotsSound, domainSound}
-use Rattle.mpu.specs.Mpu.{within, baseOf, sizeField, sizeOf, apRights, withExecute, regionRights, regionHolds, placeOk, reservedOk, regionOk, rbarAt, rasrAt, regionsOf, okTo, planOk, planTo, domainTo, rightsOfPlan, rightsOfDomain, plain, checked}
+use Rattle.mpu.specs.Mpu.{baseOf, sizeOf, apRights, withExecute, regionRights, regionHolds, placeOk, reservedOk, regionOk, rbarAt, rasrAt, regionsOf, okTo, planOk, planTo, domainTo, rightsOfPlan, rightsOfDomain, plain, checked}
 use Rattle.mpu.proofs.Table.{both-true, any-true, last-step, last-same, all-same, all-at, all-more}
 use Rattle.mpu.proofs.Exact.{ok-when}
-use Rattle.planner.specs.Planner.{fieldFor, rbarFor, xnFor, apFor, rasrFor, rbarOf, rasrOf, slotFits, slotsFit, wordsTo, planOf, wordCount}
-use Rattle.planner.proofs.Filled.{Slot, slot, by-32, words-length, plan-length, active-le, active-all, fits-at}
+use Rattle.planner.specs.Planner.{fieldFor, rbarFor, xnFor, apFor, rasrFor, rbarOf, rasrOf, slotsFit, wordsTo, planOf}
+use Rattle.planner.proofs.Filled.{Slot, slot, by-32, words-length, plan-length, active-le, fits-at}
 
 -- the fields of a RASR that the planner makes
 abbrev word : Bool → Bool → ℕ → ℕ

@@ -1,7 +1,7 @@
 -- Document 01's worked example: region 2 of a plan for three slots, and what the checker says of that plan, and of the same plan with AP 6.
 use Prim.Native.Nat.{ℕ}
-use mathlib.Core.Path.{_≡_, refl, sym, _∙_}
-use mathlib.Core.List.{List, [], _∷_, _++_}
+use mathlib.Core.Path.{_≡_, refl, sym}
+use mathlib.Core.List.{List, [], _∷_}
 use mathlib.Core.Bool.{true}
 use lib.Dec.{lit<}
 use lib.ListN.{replicate}

@@ -14,7 +14,7 @@ use Rattle.mem_domain.specs.declared.MemPartition.{MemPartition}
 use Rattle.mem_domain.specs.declared.MemDomain.{MemDomain}
 use Rattle.mpu.specs.Table.{lastOf, allTo}
 use Rattle.mpu.specs.Sound.{domainSound}
-use Rattle.mpu.specs.Mpu.{plain}
+use Rattle.mpu.specs.Mpu.{maxRegions, plain}
 
 -- the SIZE whose region has that size, 2^(SIZE+1); 0 where no region has
 unfoldable pub fieldFor : ℕ → ℕ
@@ -84,7 +84,7 @@ wordCount l = activeCount l * 2
 unfoldable pub planned : MemDomain → ℕ → ℕ → Answer
 planned d regions room =
     cond (not (domainSound d)) (plain Value) (
-    cond (ltb 16 regions) (plain Einval) (
+    cond (ltb maxRegions regions) (plain Einval) (
     cond (not (slotsFit (d .partitions)) || ltb regions (activeCount (d .partitions))) (plain Noplan) (
     cond (ltb room (wordCount (d .partitions))) (plain Room) (
     record { code = numberOf Ok; value = wordCount (d .partitions) }))))

@@ -1,11 +1,7 @@
-use mathlib.Core.Path.{_≡_, refl, sym, ap, _∙_}
-use Rattle.answer.specs.Tests.{tests, via}
-use borrow.Author.Tests.{lt-ltb, le-ltb, le-leb, lt-leb, eq-eqb, ne-eqb, not-true, not-false}
-use Rattle.mpu.proofs.Slots.{active-on, active-off}
+use Rattle.answer.specs.Tests.{via}
+use borrow.Author.Tests.{not-true, not-false}
 use Rattle.mpu.proofs.Plan.{edges-same}
 use Rattle.mpu.specs.Mpu.{checked}
-use Rattle.mpu.specs.Sound.{domainSound}
-use Rattle.mpu.specs.Edges.{edgesAgree}
 use borrow.Author.Needs.{needs}
 use Rattle.mpu.proofs.check.Statement.{statement}
 use Rattle.mpu.proofs.check.Tie as tie

@@ -1,19 +1,13 @@
-use Rattle.answer.specs.Tests.{tests, via}
+use Rattle.answer.specs.Tests.{via}
 use borrow.Author.Needs.{needs}
-use borrow.Author.Tests.{lt-ltb, le-ltb, le-leb, lt-leb, eq-eqb, ne-eqb, not-true, not-false}
-use Rattle.mpu.specs.Mpu.{regionOk}
-use Prim.Native.Nat.{_≤_, _-_, _+_, _*_, _/_, _<_}
-use mathlib.Core.Bool.{Bool, true, false}
-use mathlib.Core.Path.{_≡_, refl, sym, ap, _∙_}
-use mathlib.Core.Logic.{_⊎_, inl, inr}
+use borrow.Author.Tests.{le-leb, lt-leb, eq-eqb, ne-eqb}
+use Prim.Native.Nat.{_≤_, _-_, _/_}
+use mathlib.Core.Bool.{true}
+use mathlib.Core.Path.{_≡_, sym}
 use native.Mathlib.Omega.{arith}
 use lib.ListN.{length}
-use Rattle.mpu.specs.Mpu.{planTo, domainTo, rightsOfPlan, rightsOfDomain, okTo, planOk, regionOk, regionHolds, regionRights, sizeOf, rbarAt, rasrAt}
-use Rattle.mpu.specs.Sound.{apartTo}
-use Rattle.mem_domain.specs.Domain.{activeTo, activeCount, slotAt}
-use Rattle.mpu.proofs.Table.{last-zero, last-on, last-off, all-zero, all-more, all-fails}
-use Rattle.mpu.proofs.Words.{size-shift, size-le, size-gt}
-use Rattle.mem_domain.proofs.Scan.{count-none, count-hit, count-miss, count-le}
+use Rattle.mpu.specs.Mpu.{okTo, planOk}
+use Rattle.mpu.proofs.Table.{all-zero, all-more, all-fails}
 use Rattle.mpu.proofs.plan_ok.Statement.{statement}
 use Rattle.mpu.proofs.plan_ok.Tie as tie
 use Rattle.mpu.proofs.plan_ok.Reads as reads

@@ -1,10 +1,8 @@
-use Rattle.answer.specs.Tests.{tests, via}
+use Rattle.answer.specs.Tests.{via}
 use borrow.Author.Needs.{needs}
-use Prim.Native.Nat.{ℕ, _≤_, _-_, _+_, _*_, _/_, _<_}
-use mathlib.Core.Bool.{Bool, true, false}
-use mathlib.Core.Path.{_≡_, refl, sym, ap, _∙_}
+use Prim.Native.Nat.{_≤_, _-_}
+use mathlib.Core.Path.{_≡_, sym, ap, _∙_}
 use native.Mathlib.Omega.{arith}
-use lib.ListN.{length}
 use Rattle.mpu.specs.Mpu.{planTo, rightsOfPlan, regionsOf, regionRights}
 use Rattle.mpu.proofs.Table.{last-zero, last-here, last-down}
 use Rattle.mpu.proofs.plan_rights.Statement.{statement}

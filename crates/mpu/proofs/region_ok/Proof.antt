@@ -1,5 +1,5 @@
-use Rattle.answer.specs.Tests.{tests, via}
-use borrow.Author.Tests.{lt-ltb, le-ltb, le-leb, lt-leb, eq-eqb, ne-eqb, not-true, not-false}
+use Rattle.answer.specs.Tests.{via}
+use borrow.Author.Tests.{le-leb, lt-leb, eq-eqb, ne-eqb, not-true, not-false}
 use Rattle.mpu.specs.Mpu.{regionOk}
 use borrow.Author.Needs.{needs}
 use Rattle.mpu.proofs.region_ok.Statement.{statement}

@@ -1,8 +1,5 @@
-use Rattle.answer.specs.Tests.{tests, via}
-use borrow.Author.Tests.{lt-ltb, le-ltb, le-leb, lt-leb, eq-eqb, ne-eqb}
-use Rattle.mpu.specs.Mpu.{baseOf, sizeOf, apRights, withExecute, regionRights, regionHolds, placeOk, reservedOk, regionOk}
-use Rattle.mpu.specs.Sound.{attrOk, slotOk, apart}
-use Rattle.mem_domain.specs.Partition.{holds}
+use Rattle.answer.specs.Tests.{tests}
+use Rattle.mpu.specs.Mpu.{withExecute}
 use borrow.Author.Needs.{needs}
 use Rattle.mpu.proofs.with_execute.Statement.{statement}
 use Rattle.mpu.proofs.with_execute.Tie as tie

@@ -1,12 +1,8 @@
-use Prim.Native.Nat.{_≤_, _-_, _+_, _*_, _<_}
-use mathlib.Core.Path.{_≡_, refl, sym, ap, _∙_}
-use native.Mathlib.Omega.{arith}
+use Prim.Native.Nat.{_-_}
+use mathlib.Core.Path.{refl}
 use borrow.Author.Tests.{not-true, not-false}
-use lib.ListN.{length}
 use Rattle.answer.specs.Tests.{via}
-use Rattle.mem_domain.specs.Domain.{activeCount}
-use Rattle.planner.specs.Planner.{wordCount}
-use Rattle.planner.proofs.Filled.{counted, active-all}
+use Rattle.planner.proofs.Filled.{counted}
 use Rattle.planner.proofs.Answers.{value, einval, unfit, few, short, good, refused, written}
 use borrow.Author.Needs.{needs}
 use Rattle.planner.proofs.plan.Statement.{statement}

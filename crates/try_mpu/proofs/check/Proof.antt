@@ -1,7 +1,6 @@
-use Prim.Native.Nat.{_≤_, _-_}
-use mathlib.Core.Path.{_≡_, sym}
+use Prim.Native.Nat.{_-_}
+use mathlib.Core.Path.{sym}
 use native.Mathlib.Omega.{arith}
-use lib.ListN.{length}
 use lib.Seq.{length-take-le}
 use borrow.Author.Needs.{needs}
 use Rattle.try_mpu.proofs.check.Statement.{statement}
