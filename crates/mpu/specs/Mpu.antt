@@ -1,0 +1,137 @@
+-- PMSAv7 as document 01, "MPU", has it: what a region's two words give unprivileged code, which plans are well formed, what a domain gives,
+-- and what the checker answers. Rights are a number as attr is: 1 read, 2 write, 4 execute.
+use Prim.Native.Nat.{ℕ, _+_, _*_, _/_, _%_, _^_, _-_}
+use mathlib.Core.Bool.{Bool, cond, not, _&&_, _||_}
+use mathlib.Core.List.{List}
+use lib.Dec.{leb, ltb, eqb}
+use lib.ListN.{length, getD}
+use Rattle.answer.specs.Answer.{numberOf}
+use Rattle.answer.specs.declared.Answer.{Answer}
+use Rattle.answer.specs.declared.Code.{Code}
+use Rattle.answer.specs.declared.Code.the-variants.{Ok, Value, Differs}
+use Rattle.mem_domain.specs.Domain.{slots, slotAt, holdsAt}
+use Rattle.mem_domain.specs.declared.MemPartition.{MemPartition}
+use Rattle.mem_domain.specs.declared.MemDomain.{MemDomain}
+use Rattle.mpu.specs.Table.{lastOf}
+use Rattle.domain_rules.specs.Scan.{allTo}
+use Rattle.domain_rules.specs.Sound.{domainSound}
+
+-- bits hi:lo of a word
+abbrev pub bits : ℕ → ℕ → ℕ → ℕ
+bits w hi lo = w / 2 ^ lo % 2 ^ (hi + 1 - lo)
+
+-- from lo up to, and without, hi
+abbrev pub within : ℕ → ℕ → ℕ → Bool
+within lo hi a = leb lo a && ltb a hi
+
+-- RBAR: address 31:5
+unfoldable pub baseOf : ℕ → ℕ
+baseOf rbar = rbar / 32 * 32
+
+-- RASR: SIZE 5:1
+abbrev pub sizeField : ℕ → ℕ
+sizeField rasr = bits rasr 5 1
+
+-- size is 2^(SIZE+1)
+unfoldable pub sizeOf : ℕ → ℕ
+sizeOf rasr = 2 ^ (sizeField rasr + 1)
+
+-- the first address behind a region
+abbrev pub topOf : ℕ → ℕ → ℕ
+topOf rbar rasr = baseOf rbar + sizeOf rasr
+
+-- unprivileged: AP 3 read and write; 2, 6, 7 read; 0, 1, 5 none; 4 reserved
+unfoldable pub apRights : ℕ → ℕ
+apRights ap = cond (eqb ap 3) 3 (cond (eqb ap 2 || (eqb ap 6 || eqb ap 7)) 1 0)
+
+-- execute needs read and XN 0
+unfoldable pub withExecute : ℕ → ℕ → ℕ
+withExecute rights xn = cond (eqb rights 0) 0 (cond (eqb xn 0) (rights + 4) rights)
+
+-- RASR: AP 26:24, XN 28
+unfoldable pub regionRights : ℕ → ℕ
+regionRights rasr = withExecute (apRights (bits rasr 26 24)) (bits rasr 28 28)
+
+-- ENABLE, bit 0, is 1, and the address is from the base on and below the base plus the size
+unfoldable pub regionHolds : ℕ → ℕ → ℕ → Bool
+regionHolds rbar rasr a = eqb (rasr % 2) 1 && within (baseOf rbar) (topOf rbar rasr) a
+
+-- VALID, bit 4, must be 1; region 3:0 is its place
+unfoldable pub placeOk : ℕ → ℕ → Bool
+placeOk rbar k = eqb (bits rbar 4 4) 1 && eqb (rbar % 16) k
+
+-- the bits that have no name: 31:29, 27, 23:22, 7:6
+unfoldable pub reservedOk : ℕ → Bool
+reservedOk rasr = eqb (bits rasr 31 29) 0 && (eqb (bits rasr 27 27) 0 && (eqb (bits rasr 23 22) 0 && eqb (bits rasr 7 6) 0))
+
+-- place; reserved bits; SRD 15:8 zero; AP not 4; SIZE >= 4; base a multiple of size: enabled or not
+unfoldable pub regionOk : ℕ → ℕ → ℕ → Bool
+regionOk rbar rasr k =
+    placeOk rbar k && (
+    reservedOk rasr && (
+    eqb (bits rasr 15 8) 0 && (not (eqb (bits rasr 26 24) 4) && (leb 4 (sizeField rasr) && eqb (baseOf rbar % sizeOf rasr) 0))))
+
+-- two words per region, in region order
+abbrev pub rbarAt : List ℕ → ℕ → ℕ
+rbarAt plan k = getD plan (k * 2) 0
+
+abbrev pub rasrAt : List ℕ → ℕ → ℕ
+rasrAt plan k = getD plan (k * 2 + 1) 0
+
+-- each of the first n regions is well formed
+abbrev pub okTo : List ℕ → ℕ → Bool
+okTo plan = allTo (λ k. regionOk (rbarAt plan k) (rasrAt plan k) k)
+
+-- how many regions a plan has
+abbrev pub regionsOf : List ℕ → ℕ
+regionsOf plan = length plan / 2
+
+-- at most 16 regions
+abbrev pub maxRegions : ℕ
+maxRegions = 16
+
+-- no odd word count, at most 16 regions, each well formed
+unfoldable pub planOk : List ℕ → Bool
+planOk plan = eqb (length plan % 2) 0 && (leb (length plan) (maxRegions * 2) && okTo plan (regionsOf plan))
+
+-- of the first n regions the highest-numbered enabled one that holds the address decides; none gives nothing
+abbrev pub planTo : List ℕ → ℕ → ℕ → ℕ
+planTo plan a = lastOf (λ k. regionHolds (rbarAt plan k) (rasrAt plan k) a) (λ k. regionRights (rasrAt plan k))
+
+-- what a plan gives unprivileged code at an address
+unfoldable pub rightsOfPlan : List ℕ → ℕ → ℕ
+rightsOfPlan plan a = planTo plan a (regionsOf plan)
+
+-- the attr of an active slot among the first n that holds the address; none gives nothing
+abbrev pub domainTo : List MemPartition → ℕ → ℕ → ℕ
+domainTo l a = lastOf (holdsAt l a) (λ k. slotAt l k .attr)
+
+-- what a domain gives at an address
+unfoldable pub rightsOfDomain : List MemPartition → ℕ → ℕ
+rightsOfDomain l a = domainTo l a slots
+
+-- the plan gives what the domain gives, at one address
+unfoldable pub agreeAt : List MemPartition → List ℕ → ℕ → Bool
+agreeAt l plan a = eqb (rightsOfPlan plan a) (rightsOfDomain l a)
+
+-- addresses have 32 bits
+abbrev pub addresses : ℕ
+addresses = 2 ^ 32
+
+-- the plan gives what the domain gives, at every address
+unfoldable pub sameRights : List MemPartition → List ℕ → Bool
+sameRights l plan = allTo (agreeAt l plan) addresses
+
+-- an answer with value 0
+abbrev pub numbered : ℕ → Answer
+numbered code = record { code = code; value = 0 }
+
+abbrev pub plain : Code → Answer
+plain c = numbered (numberOf c)
+
+-- VALUE for a record that breaks a rule or an ill-formed plan; else OK for equal rights; else DIFFERS
+unfoldable pub checked : MemDomain → List ℕ → Answer
+checked d plan =
+    cond (not (domainSound d && planOk plan)) (plain Value) (
+    cond (sameRights (d .partitions) plan) (plain Ok) (
+    plain Differs))
