@@ -7,7 +7,7 @@ ghost use Rattle.domain_rules.specs.Sound.{attrOk, slotOk, apartOf, apar
 use mem_domain::MemDomain;
 use mem_domain::MemPartition;
 
-const SLOTS: usize = 16;
+const SLOTS: usize = mem_domain::MAX_PARTITIONS as usize;
 
 fn attr_ok(attr: u32) -> bool
     ensures { λ r. ⌜ r ≡ attrOk attr ⌝ }

@@ -14,7 +14,17 @@ ghost use Rattle.rules.specs.Rules.{isServed, serving, threadOk, judgedT
 use mem_domain::MemPartition;
 use tables::DOMAINS;
 use tables::HANDLES;
+use tables::OBJECT_NUMBERS;
+use tables::SLOT_NUMBERS;
+use tables::SLOTS;
+use tables::THREAD_NUMBERS;
+use tables::THREADS;
 use tables::Thread;
+
+// The limits as places, for the passes that count in them.
+const ALL_HANDLES: usize = HANDLES as usize;
+
+const ALL_DOMAINS: usize = DOMAINS as usize;
 
 // What the pass over the threads finds: whether each keeps its rules, and who lives, bit t for thread t.
 struct Judged {
@@ -78,7 +88,7 @@ fn judge_threads(objects: &[u64], threads: &[u32]) -> Judged
     let mut live: u64 = 0;
     let mut served = [0u64; 4];
     let mut t: u32 = 0;
-    while t < 64 {
+    while t < THREADS {
         let r = tables::load_thread(threads, t);
         if !thread_ok(objects, r) {
             return Judged { ok: false, live: 0 };
@@ -120,7 +130,7 @@ fn objects_ok(objects: &[u64], live: u64) -> bool
     ensures { λ r. ⌜ r ≡ allTo (objectAtOk (now (objects .entry)) live) 256 ⌝ }
 {
     let mut h: usize = 0;
-    while h < 256 {
+    while h < ALL_HANDLES {
         let head = objects[2 * h];
         let word = objects[2 * h + 1];
         if !object_ok(live, head, word) {
@@ -179,9 +189,9 @@ fn domain_fine(slots: &[u32], d: usize) -> bool
     requires { ⌜ (d < 8) × (length (now slots) ≡ 384) ⌝ }
     ensures { λ r. ⌜ r ≡ slotsSound (partitionsAt (now (slots .entry)) d) ⌝ }
 {
-    let first = 16 * d;
+    let first = SLOTS * d;
     let mut k = 0;
-    while k < 16 {
+    while k < SLOTS {
         if !slot_fine(slots, first, k) {
             return false;
         }
@@ -195,7 +205,7 @@ fn domains_ok(slots: &[u32]) -> bool
     ensures { λ r. ⌜ r ≡ domainsSound (now (slots .entry)) ⌝ }
 {
     let mut d: usize = 0;
-    while d < 8 {
+    while d < ALL_DOMAINS {
         if !domain_fine(slots, d) {
             return false;
         }
@@ -208,13 +218,13 @@ fn domains_ok(slots: &[u32]) -> bool
 pub fn keeps(objects: &[u64], threads: &[u32], slots: &[u32]) -> bool
     ensures { λ r. ⌜ r ≡ keepsTest (now (objects .entry)) (now (threads .entry)) (now (slots .entry)) ⌝ }
 {
-    if objects.len() != 512 {
+    if objects.len() != OBJECT_NUMBERS {
         return false;
     }
-    if threads.len() != 192 {
+    if threads.len() != THREAD_NUMBERS {
         return false;
     }
-    if slots.len() != 384 {
+    if slots.len() != SLOT_NUMBERS {
         return false;
     }
     let j = judge_threads(objects, threads);

@@ -9,12 +9,21 @@ use mem_domain::MemDomain;
 use mem_domain::MemPartition;
 use userspace::KernelObject;
 
-// The limits that no leaf has; 64 threads and 16 slots are userspace's and mem_domain's own.
+// The limits: threads and slots are the leaves' own, handles and domains are named here.
+pub const THREADS: u32 = userspace::MAX_THREADS;
+
 pub const HANDLES: u32 = 256;
 
 pub const DOMAINS: u32 = 8;
 
-const SLOTS: usize = 16;
+pub const SLOTS: usize = mem_domain::MAX_PARTITIONS as usize;
+
+// How many numbers each table has.
+pub const OBJECT_NUMBERS: usize = 2 * (HANDLES as usize);
+
+pub const THREAD_NUMBERS: usize = 3 * (THREADS as usize);
+
+pub const SLOT_NUMBERS: usize = 3 * SLOTS * (DOMAINS as usize);
 
 // A thread's record: role 0 dead, 1 user, 2 supervisor; domain 0..7 or 255 for none; the handle of its thread object.
 pub struct Thread {
@@ -118,7 +127,7 @@ fn store_partition(slots: &mut [u32], n: usize, p: MemPartition)
 pub fn load_slot(slots: &[u32], d: u32, k: u32) -> MemPartition
     ensures { λ r. ⌜ r ≡ slotAt (now (slots .entry)) d k ⌝ }
 {
-    if 16 <= k {
+    if mem_domain::MAX_PARTITIONS <= k {
         return MemPartition {
             start: 0,
             size: 0,
@@ -131,7 +140,7 @@ pub fn load_slot(slots: &[u32], d: u32, k: u32) -> MemPartition
 pub fn store_slot(slots: &mut [u32], d: u32, k: u32, p: MemPartition)
     ensures { λ _. ⌜ now (slots .exit) ≡ putSlot (now (slots .entry)) d k p ⌝ }
 {
-    if k < 16 {
+    if k < mem_domain::MAX_PARTITIONS {
         store_partition(slots, SLOTS * (d as usize) + k as usize, p);
     }
 }
