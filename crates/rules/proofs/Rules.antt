@@ -12,15 +12,15 @@ use lib.ListN.{length, getD}
 use borrow.Author.Tests.{eqb-true, eqb-false, eq-eqb, ne-eqb, ltb-true, lt-ltb, leb-true, le-leb, not-true}
 use Rattle.domain_rules.specs.Scan.{allTo}
 use Rattle.mem_domain.specs.Domain.{slots as SLOTS}
-use Rattle.domain_rules.specs.Sound.{SlotsKeep, slotsSound}
+use Rattle.domain_rules.specs.Sound.{SlotsKeep, slotsSound, domainSound}
 use Rattle.domain_rules.proofs.All.{both-true, both, either-true, or-left, or-right, isnt-true, all-at, all-from}
-use Rattle.domain_rules.proofs.Sound.{slots-keep, slots-sound}
+use Rattle.domain_rules.proofs.Sound.{slots-keep, slots-sound, counted-sound}
 use Rattle.userspace.specs.Bit.{isSet}
 use Rattle.userspace.specs.Userspace.{THREADS}
 use Rattle.userspace.specs.declared.KernelObject.{KernelObject}
 use Rattle.tables.specs.declared.Thread.{Thread}
 use Rattle.tables.specs.Tabulate.{tabulate, length-tabulate}
-use Rattle.tables.specs.Table.{HANDLES, DOMAINS, noObject, nobody, objectOf, objectAt, threadAt, partitionsAt}
+use Rattle.tables.specs.Table.{HANDLES, DOMAINS, noObject, nobody, objectOf, objectAt, threadAt, partitionsAt, domainAt}
 use Rattle.tables.specs.Laws.{object-out, thread-out}
 use Rattle.tables.specs.State.{State, stateOf, objectsOf, threadsOf, domainsOf, object, thread, domain, object-of, thread-of, domain-of, Fit}
 use Rattle.rules.specs.Rules.{isLive, Keeps, Sound, liveTo, objectOk, objectAtOk, threadOk, unserved, threadSound, domainsSound, keepsTest}
@@ -363,3 +363,7 @@ module _ (os ts ss : List ℕ) where
           objects = all-from (objectAtOk os (liveTo ts THREADS)) HANDLES object-sound;
           domains = all-from (λ d. slotsSound (partitionsAt ss d)) DOMAINS (λ d l. slots-sound (partitionsAt ss d) (rw (read-domain d l) at (s .keeps .slots d l)));
         })
+
+    -- a domain loaded from such a state keeps the rules of a domain record, its count among them: planner and checker take it
+    pub loaded-sound : (d : ℕ) → d < DOMAINS → domainSound (domainAt ss d) ≡ true
+    loaded-sound d l = counted-sound (partitionsAt ss d) ∙ slots-sound (partitionsAt ss d) (rw (read-domain d l) at (s .keeps .slots d l))
