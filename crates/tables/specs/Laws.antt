@@ -6,6 +6,7 @@ use mathlib.Core.Path.{_≡_, refl, sym, ap, _∙_}
 use mathlib.Core.Logic.{_≢_}
 use mathlib.Core.List.{List, [], _∷_}
 use native.Mathlib.Omega.{arith}
+use borrow.Author.Tests.{lt-ltb, le-ltb}
 use lib.ListN.{length, getD}
 use lib.Seq.{length-sets}
 use Rattle.mem_domain.specs.Partition.{empty}
@@ -15,7 +16,7 @@ use Rattle.userspace.specs.declared.KernelObject.{KernelObject}
 use Rattle.tables.specs.declared.Thread.{Thread}
 use Rattle.tables.specs.Rows.{apart-2, apart-3, sets-comm, at2-same, at2-other, at2-out, at3-same, at3-other, at3-out}
 use Rattle.tables.specs.Tabulate.{tabulate, tabulate-ext, tabulate-getD}
-use Rattle.tables.specs.Table.{noObject, nobody, objectOf, objectAt, putObject, objectRow, threadOf, threadAt, putThread, threadRow, partitionOf, partitionAt, putPartition, partitionRow, partitionsAt, putTo}
+use Rattle.tables.specs.Table.{noObject, nobody, objectOf, objectAt, putObject, objectRow, threadOf, threadAt, putThread, threadRow, partitionOf, partitionAt, putPartition, partitionRow, slotAt, putSlot, partitionsAt, putTo}
 
 -- ---- objects
 
@@ -144,3 +145,84 @@ module _ (xs : List ℕ) (d : ℕ) (ps : List MemPartition) where
   unfolding partitionsAt
   domain-other c ne =
       tabulate-ext SLOTS _ (λ k. partitionAt xs (SLOTS * c + k)) (λ k h. put-other SLOTS (SLOTS * c + k) (λ j g e. ne (omega arith)))
+
+  -- a partition outside the n may be stored before or after them
+  pub put-past : (n i : ℕ) (q : MemPartition) → ((k : ℕ) → k < n → SLOTS * d + k ≢ i) → putPartition (putTo xs d ps n) i q ≡ putTo (putPartition xs i q) d ps n
+  unfolding putTo
+  put-past zero i q ne = refl
+  put-past (suc n) i q ne =
+      partition-comm (putTo xs d ps n) (SLOTS * d + n) i (getD ps n empty) q (ne n (omega arith))
+      ∙ ap (λ l. putPartition l (SLOTS * d + n) (getD ps n empty)) (put-past n i q (λ k h. ne k (omega arith)))
+
+-- two domains may be stored in either order
+pub domain-comm :
+    (xs : List ℕ) (c d : ℕ) (ps qs : List MemPartition) (n : ℕ) → c ≢ d → n ≤ SLOTS →
+    putTo (putTo xs c ps SLOTS) d qs n ≡ putTo (putTo xs d qs n) c ps SLOTS
+unfolding putTo
+domain-comm xs c d ps qs zero ne h = refl
+domain-comm xs c d ps qs (suc n) ne h =
+    ap (λ l. putPartition l (SLOTS * d + n) (getD qs n empty)) (domain-comm xs c d ps qs n ne (omega arith))
+    ∙ put-past (putTo xs d qs n) c ps SLOTS (SLOTS * d + n) (getD qs n empty) (λ k g e. ne (omega arith))
+
+-- ---- slot k of domain d, with no slot from 16 on
+
+-- another slot, or another domain
+abbrev pub Elsewhere : ℕ → ℕ → ℕ → ℕ → Type 0
+Elsewhere d k e j = d ≡ e → k ≡ j → ⊥
+
+numbers-differ : (d k e j : ℕ) → k < SLOTS → j < SLOTS → Elsewhere d k e j → SLOTS * d + k ≢ SLOTS * e + j
+numbers-differ d k e j h g ne q = ne (omega arith) (omega arith)
+
+module _ (xs : List ℕ) (d k : ℕ) (p : MemPartition) where
+  put-in : k < SLOTS → putSlot xs d k p ≡ putPartition xs (SLOTS * d + k) p
+  unfolding putSlot
+  put-in h = rw (lt-ltb k SLOTS h)
+
+  put-out : SLOTS ≤ k → putSlot xs d k p ≡ xs
+  unfolding putSlot
+  put-out h = rw (le-ltb k SLOTS h)
+
+  at-in : (ys : List ℕ) (e j : ℕ) → j < SLOTS → slotAt ys e j ≡ partitionAt ys (SLOTS * e + j)
+  unfolding slotAt
+  at-in ys e j h = rw (lt-ltb j SLOTS h)
+
+  at-out : (ys : List ℕ) (e j : ℕ) → SLOTS ≤ j → slotAt ys e j ≡ empty
+  unfolding slotAt
+  at-out ys e j h = rw (le-ltb j SLOTS h)
+
+  pub slot-length : length (putSlot xs d k p) ≡ length xs
+  slot-length = go (decLt k SLOTS)
+    where
+      go : Dec (k < SLOTS) → length (putSlot xs d k p) ≡ length xs
+      go (yes h) = ap length (put-in h) ∙ partition-length xs (SLOTS * d + k) p
+      go (no f) = ap length (put-out (omega arith))
+
+  pub slot-same : k < SLOTS → 3 * (SLOTS * d + k) + 2 < length xs → slotAt (putSlot xs d k p) d k ≡ p
+  slot-same h l = at-in (putSlot xs d k p) d k h ∙ rw (put-in h) (partition-same xs (SLOTS * d + k) p l)
+
+  pub slot-other : (e j : ℕ) → Elsewhere d k e j → slotAt (putSlot xs d k p) e j ≡ slotAt xs e j
+  slot-other e j ne = go (decLt k SLOTS) (decLt j SLOTS)
+    where
+      go : Dec (k < SLOTS) → Dec (j < SLOTS) → slotAt (putSlot xs d k p) e j ≡ slotAt xs e j
+      go (no f) g = ap (λ l. slotAt l e j) (put-out (omega arith))
+      go (yes h) (no f) = at-out (putSlot xs d k p) e j (omega arith) ∙ sym (at-out xs e j (omega arith))
+      go (yes h) (yes g) =
+          at-in (putSlot xs d k p) e j g
+          ∙ rw (put-in h) (partition-other xs (SLOTS * e + j) (SLOTS * d + k) p (numbers-differ d k e j h g ne))
+          ∙ sym (at-in xs e j g)
+
+pub slot-comm :
+    (xs : List ℕ) (d k e j : ℕ) (p q : MemPartition) → Elsewhere d k e j →
+    putSlot (putSlot xs d k p) e j q ≡ putSlot (putSlot xs e j q) d k p
+slot-comm xs d k e j p q ne = go (decLt k SLOTS) (decLt j SLOTS)
+  where
+    go : Dec (k < SLOTS) → Dec (j < SLOTS) → putSlot (putSlot xs d k p) e j q ≡ putSlot (putSlot xs e j q) d k p
+    go (no f) g =
+        ap (λ l. putSlot l e j q) (put-out xs d k p (omega arith)) ∙ sym (put-out (putSlot xs e j q) d k p (omega arith))
+    go (yes h) (no f) =
+        put-out (putSlot xs d k p) e j q (omega arith) ∙ sym (ap (λ l. putSlot l d k p) (put-out xs e j q (omega arith)))
+    go (yes h) (yes g) =
+        put-in (putSlot xs d k p) e j q g
+        ∙ ap (λ l. putPartition l (SLOTS * e + j) q) (put-in xs d k p h)
+        ∙ partition-comm xs (SLOTS * d + k) (SLOTS * e + j) p q (numbers-differ d k e j h g ne)
+        ∙ sym (put-in (putSlot xs e j q) d k p h ∙ ap (λ l. putPartition l (SLOTS * d + k) p) (put-in xs e j q g))
