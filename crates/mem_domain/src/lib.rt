@@ -151,12 +151,13 @@ impl MemDomain {
     }
 
     // The same slots with their count worked out anew: a domain that comes out of a table brings none.
-    pub fn counted(mut self) -> MemDomain
+    pub fn counted(self) -> MemDomain
         ensures { λ r. ⌜ r ≡ withCount (self .partitions) ⌝ }
     {
         let n = self.count_active();
-        self.num_partitions = n;
-        self
+        let mut next = self;
+        next.num_partitions = n;
+        next
     }
 
     pub fn num_partitions_get(self) -> u32
