@@ -1,0 +1,45 @@
+-- The memory check, byte by byte: document 01, "Memory check". The slots are those of the caller's domain; with domain 255 there are none.
+use Prim.Native.Nat.{ℕ, zero, suc, _+_, _*_}
+use mathlib.Core.Bool.{Bool, cond, not, _&&_, _||_}
+use mathlib.Core.List.{List, []}
+use lib.Dec.{eqb, ltb, leb}
+use lib.ListN.{length}
+use Rattle.answer.specs.declared.Answer.{Answer}
+use Rattle.answer.specs.declared.Code.the-variants.{Ok, Einval, Eperm}
+use Rattle.answer.specs.Answer.{numberOf}
+use Rattle.mem_domain.specs.Scan.{anyTo}
+use Rattle.mem_domain.specs.Domain.{slots as SLOTS, slotAt, holdsAt}
+use Rattle.mem_domain.specs.declared.MemPartition.{MemPartition}
+use Rattle.userspace.specs.Bit.{isSet}
+use Rattle.tables.specs.Table.{partitionsAt}
+
+-- attr: 1 read, 2 write
+unfoldable pub gives : MemPartition → Bool → Bool
+gives p write = isSet (p .attr) (cond write 1 0)
+
+-- slot k is active, holds the address and gives the right
+abbrev pub coversAt : List MemPartition → Bool → ℕ → ℕ → Bool
+coversAt ps write x k = holdsAt ps x k && gives (slotAt ps k) write
+
+-- the byte at x lies in an active slot with that right
+unfoldable pub isCovered : List MemPartition → Bool → ℕ → Bool
+isCovered ps write x = anyTo (coversAt ps write x) SLOTS
+
+-- how many of the n bytes from x on are covered in a row
+unfoldable pub coveredRun : List MemPartition → Bool → ℕ → ℕ → ℕ
+coveredRun ps write x zero = 0
+coveredRun ps write x (suc n) = cond (isCovered ps write x) (suc (coveredRun ps write (suc x) n)) 0
+
+-- n bytes in a row are covered: all of them, or EPERM with the first address that is not
+unfoldable pub reached : ℕ → ℕ → ℕ → Answer
+reached from len n = cond (leb len n) (record { code = numberOf Ok; value = 0 }) (record { code = numberOf Eperm; value = from + n })
+
+-- length 0 or end > 4294967295 EINVAL; supervisors pass; otherwise every byte must be covered
+unfoldable pub memoryRule : List MemPartition → Bool → ℕ → ℕ → Bool → Answer
+memoryRule ps supervisor from len write =
+    cond (eqb len 0 || ltb 4294967295 (from + len)) (record { code = numberOf Einval; value = 0 })
+    (cond supervisor (record { code = numberOf Ok; value = 0 }) (reached from len (coveredRun ps write from len)))
+
+-- the slots of domain d in a table of numbers; a domain that the table does not hold whole has none
+unfoldable pub slotsIn : List ℕ → ℕ → List MemPartition
+slotsIn ss d = cond (leb (3 * (SLOTS * d + SLOTS)) (length ss)) (partitionsAt ss d) []
