@@ -1,9 +1,10 @@
 -- What each call answers: document 01's order, with readings 1 to 14. A refusal is a test with its name; the first that holds is the answer.
 use Prim.Native.Nat.{ℕ, _+_, _*_}
+use mathlib.Core.Path.{_≡_}
 use mathlib.Core.Bool.{Bool, true, false, cond, not, _&&_, _||_}
-use mathlib.Core.List.{List}
+use mathlib.Core.List.{List, []}
 use lib.Dec.{eqb, ltb, leb}
-use lib.ListN.{length}
+use lib.ListN.{length, getD}
 use Rattle.answer.specs.declared.Answer.{Answer}
 use Rattle.answer.specs.declared.Code.{Code}
 use Rattle.answer.specs.declared.Code.the-variants.{Ok, Einval, Eperm, Ebadf, Eaddrinuse, Short, Value}
@@ -13,10 +14,11 @@ use Rattle.mem_domain.specs.declared.Changed.{Changed}
 use Rattle.mem_domain.specs.Scan.{anyTo}
 use Rattle.mem_domain.specs.Domain.{slots as SLOTS, withCount, added, removed}
 use Rattle.userspace.specs.declared.InitCheck.{InitCheck}
+use Rattle.userspace.specs.declared.KernelObject.{KernelObject}
 use Rattle.userspace.specs.declared.InitCheck.the-variants.{MustBeInit, MustNotBeInit, DontCare}
 use Rattle.userspace.specs.Userspace.{THREADS, access, validated, answerOf}
 use Rattle.tables.specs.declared.Thread.{Thread}
-use Rattle.tables.specs.Table.{HANDLES, DOMAINS}
+use Rattle.tables.specs.Table.{HANDLES, DOMAINS, noObject, nobody}
 use Rattle.tables.specs.State.{State, stateOf, object, thread, domain}
 use Rattle.rules.specs.Rules.{isLive, isSupervisor}
 use Rattle.mem_check.specs.Memory.{memoryRule}
@@ -205,10 +207,62 @@ judge s c =
 unfoldable pub heard : State → List ℕ → Answer
 heard s bs = ltb (length bs) 16 ⇒ Short ⨾ ltb 16 (length bs) ⇒ Einval ⨾ judge s (callOf bs)
 
--- three tables that have the right lengths
+-- three tables that have the right lengths; as a statement and as a test
+pub record Sized (os ts ss : List ℕ) : Type 0 where
+  pub objects : length os ≡ 2 * HANDLES
+  pub threads : length ts ≡ 3 * THREADS
+  pub slots : length ss ≡ 3 * (SLOTS * DOMAINS)
+
 unfoldable pub sized : List ℕ → List ℕ → List ℕ → Bool
 sized os ts ss = eqb (length os) (2 * HANDLES) && (eqb (length ts) (3 * THREADS) && eqb (length ss) (3 * (SLOTS * DOMAINS)))
 
 -- what the tables answer: VALUE where they are no state at all
 unfoldable pub judgeIn : List ℕ → List ℕ → List ℕ → Call → Answer
 judgeIn os ts ss c = cond (sized os ts ss) (judge (stateOf os ts ss) c) (refused Value)
+
+-- ---- how the code goes
+
+-- an answer with value 0
+abbrev pub plain : ℕ → Answer
+plain n = record { code = n; value = 0 }
+
+-- a handle that is below 256 and taken
+unfoldable pub takenIn : List KernelObject → ℕ → Bool
+takenIn os h = ltb h HANDLES && not (eqb (getD os h noObject .«obj_type») 0)
+
+-- thread t lives and has object h as its handle
+abbrev pub servingAt : List Thread → ℕ → ℕ → Bool
+servingAt ts h t = isLive (getD ts t nobody) && eqb (getD ts t nobody .handle) h
+
+-- the memory check and the exit, of what they read
+unfoldable pub checkIn : List Thread → List (List MemPartition) → Call → Answer
+checkIn ts ds c =
+    not (wellFormed check c) ⇒ Einval
+    ⨾ memoryRule (getD ds (getD ts (c .caller) nobody .domain) []) (isSupervisor (getD ts (c .caller) nobody)) (c .b) (c .c) (eqb (c .d) 1)
+
+unfoldable pub exitIn : Call → Answer
+exitIn c = not (wellFormed exit c) ⇒ Einval ⨾ done
+
+-- create's handle; a thread that is named has to live; of two, the first is judged first
+unfoldable pub createIn : List KernelObject → ℕ → Answer
+createIn os h = leb HANDLES h ⇒ Ebadf ⨾ not (eqb (getD os h noObject .«obj_type») 0) ⇒ Eaddrinuse ⨾ done
+
+unfoldable pub namedIn : List Thread → ℕ → Answer
+namedIn ts t = not (isLive (getD ts t nobody)) ⇒ Einval ⨾ done
+
+unfoldable pub inheritIn : List Thread → ℕ → ℕ → Answer
+inheritIn ts t u = not (isLive (getD ts t nobody)) ⇒ Einval ⨾ namedIn ts u
+
+-- add and remove, of the domains
+unfoldable pub addIn : List (List MemPartition) → Call → Answer
+addIn ds c = not (wellFormed (sup add) c) ⇒ Einval ⨾ slotAnswer (added (withCount (getD ds (c .a) [])) (partitionOf c))
+
+unfoldable pub removeIn : List (List MemPartition) → Call → Answer
+removeIn ds c = not (wellFormed (sup remove) c) ⇒ Einval ⨾ slotAnswer (removed (withCount (getD ds (c .a) [])) (c .b) (c .c))
+
+-- a handle and nothing else; a handle and a thread
+abbrev pub bareFields : Call → Bool
+bareFields c = zero? (c .b) && (zero? (c .c) && zero? (c .d))
+
+abbrev pub threadFields : Call → Bool
+threadFields c = ltb (c .b) THREADS && (zero? (c .c) && zero? (c .d))

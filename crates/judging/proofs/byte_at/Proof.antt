@@ -1,0 +1,34 @@
+use mathlib.Core.Path.{_≡_, refl, sym, ap, _∙_}
+use native.Mathlib.Omega.{arith}
+use lib.ListN.{List·getD-eq-default}
+use borrow.Author.Tests.{lt-ltb, le-ltb, ltb-true, eq-eqb, ne-eqb, not-true, not-false}
+use Rattle.answer.specs.Tests.{tests, via}
+use Rattle.tables.specs.State.{object-of, thread-of, domain-of, object, thread, domain}
+use Rattle.judging.specs.Calls.{validate, grant, release, check, exit}
+use Rattle.judging.specs.Judge.{wellFormed, takenIn, rule, exitIn, judgeOp}
+use Rattle.judging.proofs.Order.{via-no, via-yes, stop, pass, stop-not, pass-not, bad-fields, bad-handle, to-rule, to-rule-bare}
+use borrow.Author.Needs.{needs}
+use Rattle.judging.proofs.byte_at.Statement.{statement}
+use Rattle.judging.proofs.byte_at.Tie as tie
+use Rattle.judging.proofs.byte_at.Reads as reads
+use Rattle.judging.proofs.byte_at.Lts as lts
+use Rattle.judging.proofs.wide.Reads as wide-reads
+
+-- src/lib.rt:54:31
+shared-slice-read-wide : tie.Need-shared-slice-read-wide
+shared-slice-read-wide c = search needs
+
+-- src/lib.rt:54:26
+wide-requires : tie.Need-wide-requires
+wide-requires c κs = search needs
+
+-- src/lib.rt:51:1
+returns : tie.Need-returns
+returns c = search needs
+
+-- src/lib.rt:51:1
+returns-2 : tie.Need-returns-2
+returns-2 c = (sym (List·getD-eq-default ((c .before .before .args .bytes .now)) 0 ((c .if1 .left))), omega arith)
+
+pub byte-at-spec : {M : Type 1} → statement M
+byte-at-spec = tie.close (tie.spec shared-slice-read-wide wide-requires returns returns-2)

@@ -1,0 +1,67 @@
+use mathlib.Core.Path.{_≡_, refl, sym, ap, _∙_}
+use native.Mathlib.Omega.{arith}
+use lib.ListN.{List·getD-eq-default}
+use borrow.Author.Tests.{lt-ltb, le-ltb, ltb-true, eq-eqb, ne-eqb, not-true, not-false}
+use Rattle.answer.specs.Tests.{tests, via}
+use Rattle.answer.specs.declared.Code.the-variants.{Ok, Einval, Eperm, Ebadf, Eaddrinuse}
+use Rattle.tables.specs.State.{object-of, thread-of, domain-of, object, thread, domain}
+use Rattle.judging.specs.Calls.{validate, grant, release, check, exit}
+use Rattle.judging.specs.Judge.{wellFormed, useOf, takenIn, rule, exitIn, judgeOp, done}
+use Rattle.judging.proofs.Order.{via-no, via-yes, stop, pass, stop-not, pass-not, bad-fields, bad-handle, to-rule, to-rule-bare}
+use borrow.Author.Needs.{needs}
+use Rattle.judging.proofs.grant.Statement.{statement}
+use Rattle.judging.proofs.grant.Tie as tie
+use Rattle.judging.proofs.grant.Reads as reads
+use Rattle.judging.proofs.grant.Lts as lts
+use Rattle.judging.proofs.grant_rule.Reads as grant-rule-reads
+use Rattle.judging.proofs.is_taken.Reads as is-taken-reads
+use Rattle.judging.proofs.plain_answer.Reads as plain-answer-reads
+use Rattle.judging.proofs.thread_fields.Reads as thread-fields-reads
+
+-- src/lib.rt:267:9
+thread-fields-requires : tie.Need-thread-fields-requires
+thread-fields-requires c κs = search needs
+
+-- src/lib.rt:268:9
+plain-answer-requires : tie.Need-plain-answer-requires
+plain-answer-requires c κs = search needs
+
+-- src/lib.rt:268:9
+returns : tie.Need-returns
+unfolding wellFormed useOf
+returns c = (c .plain-answer .ensures) ∙ sym (bad-fields grant _ _ (via-no (c .before .before .thread-fields .ensures) (c .before .if1 .taken)))
+
+-- src/lib.rt:270:9
+is-taken-requires : tie.Need-is-taken-requires
+is-taken-requires c κs = search needs
+
+-- src/lib.rt:271:9
+plain-answer-requires-2 : tie.Need-plain-answer-requires-2
+plain-answer-requires-2 c κs = search needs
+
+-- src/lib.rt:271:9
+returns-2 : tie.Need-returns-2
+unfolding wellFormed useOf
+returns-2 c = (c .plain-answer2 .ensures) ∙ sym (bad-handle grant _ _ (via-yes (c .before .before .before .before .thread-fields .ensures) (c .before .before .before .if1 .left)) refl (via-no (c .before .before .is-taken .ensures) (c .before .if2 .taken)))
+
+-- src/lib.rt:273:5
+grant-rule-requires : tie.Need-grant-rule-requires
+grant-rule-requires c κs = search needs
+
+-- src/lib.rt:263:1
+returns-3 : tie.Need-returns-3
+unfolding wellFormed useOf
+returns-3 c = (c .grant-rule .ensures) ∙ sym (to-rule grant _ _ (via-yes (c .before .before .before .before .thread-fields .ensures) (c .before .before .before .if1 .left)) refl (via-yes (c .before .before .is-taken .ensures) (c .before .if2 .left)))
+
+pub grant-spec : {M : Type 1} → statement M
+grant-spec =
+    tie.close
+    (tie.spec
+    thread-fields-requires
+    plain-answer-requires
+    returns
+    is-taken-requires
+    plain-answer-requires-2
+    returns-2
+    grant-rule-requires
+    returns-3)

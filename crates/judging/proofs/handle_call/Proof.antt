@@ -1,0 +1,86 @@
+use Rattle.judging.proofs.Order.{all-of, first-fails, second-fails, via-no, via-yes, stop, pass, stop-not, pass-not, bad-fields, bad-handle, to-rule, to-rule-bare}
+use Prim.Native.Nat.{_-_, _≤_, _<_}
+use mathlib.Core.Path.{_≡_, refl, sym, ap, _∙_}
+use native.Mathlib.Omega.{arith}
+use lib.ListN.{List·getD-eq-default}
+use mathlib.Core.Bool.{Bool, cond, not}
+use lib.Dec.{eqb, ltb}
+use borrow.Author.Tests.{lt-ltb, le-ltb, le-leb, lt-leb, ltb-true, eq-eqb, ne-eqb, not-true, not-false}
+use Rattle.answer.specs.Tests.{tests, via}
+use Rattle.answer.specs.declared.Code.the-variants.{Ok, Einval, Eperm, Ebadf, Eaddrinuse}
+use Rattle.tables.specs.State.{object-of, thread-of, domain-of, object, thread, domain, threadsOf}
+use Rattle.tables.specs.declared.Thread.{Thread}
+use Rattle.userspace.specs.declared.KernelObject.{KernelObject}
+use Rattle.userspace.specs.declared.Validated.{Validated}
+use Rattle.userspace.specs.Userspace.{answerOf}
+use native.Mathlib.Nat.{mod-eq-of-lt}
+use Rattle.mem_domain.specs.Scan.{firstFrom, lowest, anyTo}
+use Rattle.mem_domain.proofs.Scan.{turn-hit, turn-miss, turn-none, any-at}
+use Rattle.judging.specs.Calls.{validate, grant, release, check, exit, opOf, sup, create, delete, thread as thread·op}
+use Rattle.judging.specs.Judge.{wellFormed, useOf, takenIn, rule, supRule, exitIn, judgeOp, done, serves as serves·spec, servingAt, createIn, namedIn, inheritIn, addIn, removeIn, withHandle}
+use Rattle.judging.proofs.Ops.{open-known, open-free, sup-known, sup-bound, bare-op, plain-rule, taken-use}
+use borrow.Author.Needs.{needs}
+use Rattle.judging.proofs.handle_call.Statement.{statement}
+use Rattle.judging.proofs.handle_call.Tie as tie
+use Rattle.judging.proofs.handle_call.Reads as reads
+use Rattle.judging.proofs.handle_call.Lts as lts
+use Rattle.judging.proofs.create_rule.Reads as create-rule-reads
+use Rattle.judging.proofs.handle_fields.Reads as handle-fields-reads
+use Rattle.judging.proofs.is_taken.Reads as is-taken-reads
+use Rattle.judging.proofs.plain_answer.Reads as plain-answer-reads
+use Rattle.judging.proofs.taken_rule.Reads as taken-rule-reads
+
+-- src/lib.rt:483:9
+handle-fields-requires : tie.Need-handle-fields-requires
+handle-fields-requires c κs = search needs
+
+-- src/lib.rt:484:9
+plain-answer-requires : tie.Need-plain-answer-requires
+plain-answer-requires c κs = search needs
+
+-- src/lib.rt:484:9
+returns : tie.Need-returns
+returns c = (c .plain-answer .ensures) ∙ sym (bad-fields _ _ _ (via-no (c .before .before .handle-fields .ensures) (c .before .if1 .taken)))
+
+-- src/lib.rt:487:9
+create-rule-requires : tie.Need-create-rule-requires
+create-rule-requires c κs = search needs
+
+-- src/lib.rt:487:9
+returns-2 : tie.Need-returns-2
+returns-2 c = ?
+
+-- src/lib.rt:489:9
+is-taken-requires : tie.Need-is-taken-requires
+is-taken-requires c κs = search needs
+
+-- src/lib.rt:490:9
+plain-answer-requires-2 : tie.Need-plain-answer-requires-2
+plain-answer-requires-2 c κs = search needs
+
+-- src/lib.rt:490:9
+returns-3 : tie.Need-returns-3
+returns-3 c = (c .plain-answer2 .ensures) ∙ sym (bad-handle _ _ _ (via-yes (c .before .before .before .before .before .before .handle-fields .ensures) (c .before .before .before .before .before .if1 .left)) (taken-use _ (omega arith) (omega arith)) (via-no (c .before .before .is-taken .ensures) (c .before .if3 .taken)))
+
+-- src/lib.rt:492:5
+taken-rule-requires : tie.Need-taken-rule-requires
+taken-rule-requires c κs = search needs
+
+-- src/lib.rt:479:1
+returns-4 : tie.Need-returns-4
+returns-4 c = (c .taken-rule .ensures) ∙ sym (to-rule _ _ _ (via-yes (c .before .before .before .before .before .before .handle-fields .ensures) (c .before .before .before .before .before .if1 .left)) (taken-use _ (omega arith) (omega arith)) (via-yes (c .before .before .is-taken .ensures) (c .before .if3 .left)))
+
+pub handle-call-spec : {M : Type 1} → statement M
+handle-call-spec =
+    tie.close
+    (tie.spec
+    handle-fields-requires
+    plain-answer-requires
+    returns
+    create-rule-requires
+    returns-2
+    is-taken-requires
+    plain-answer-requires-2
+    returns-3
+    taken-rule-requires
+    returns-4)

@@ -1,0 +1,74 @@
+use Prim.Native.Nat.{_-_, _≤_, _<_}
+use mathlib.Core.Path.{_≡_, refl, sym, ap, _∙_}
+use native.Mathlib.Omega.{arith}
+use lib.ListN.{List·getD-eq-default}
+use mathlib.Core.Bool.{Bool, cond, not}
+use lib.Dec.{eqb, ltb}
+use borrow.Author.Tests.{lt-ltb, le-ltb, le-leb, lt-leb, ltb-true, eq-eqb, ne-eqb, not-true, not-false}
+use Rattle.answer.specs.Tests.{tests, via}
+use Rattle.answer.specs.declared.Code.the-variants.{Ok, Einval, Eperm, Ebadf, Eaddrinuse}
+use Rattle.tables.specs.State.{object-of, thread-of, domain-of, object, thread, domain, threadsOf}
+use Rattle.mem_domain.specs.Scan.{firstFrom, lowest, anyTo}
+use Rattle.mem_domain.proofs.Scan.{turn-hit, turn-miss, turn-none, any-at}
+use Rattle.judging.specs.Calls.{validate, grant, release, check, exit, opOf, sup, create, delete, thread as thread·op}
+use Rattle.judging.specs.Judge.{wellFormed, useOf, takenIn, rule, supRule, exitIn, judgeOp, done, serves as serves·spec, servingAt, createIn, namedIn, inheritIn, addIn, removeIn, withHandle}
+use Rattle.judging.proofs.Order.{via-no, via-yes, stop, pass, stop-not, pass-not, bad-fields, bad-handle, to-rule, to-rule-bare}
+use Rattle.judging.proofs.Ops.{open-known, open-free, sup-known, sup-bound, bare-op, plain-rule, taken-use}
+use borrow.Author.Needs.{needs}
+use Rattle.judging.proofs.handle_fields.Statement.{statement}
+use Rattle.judging.proofs.handle_fields.Tie as tie
+use Rattle.judging.proofs.handle_fields.Reads as reads
+use Rattle.judging.proofs.handle_fields.Lts as lts
+use Rattle.judging.proofs.bare_fields.Reads as bare-fields-reads
+use Rattle.judging.proofs.create_fields.Reads as create-fields-reads
+use Rattle.judging.proofs.new_thread_fields.Reads as new-thread-fields-reads
+use Rattle.judging.proofs.thread_fields.Reads as thread-fields-reads
+
+-- src/lib.rt:336:9
+create-fields-requires : tie.Need-create-fields-requires
+create-fields-requires c κs = search needs
+
+-- src/lib.rt:336:9
+returns : tie.Need-returns
+unfolding wellFormed opOf
+returns c = (c .create-fields .ensures) ∙ rw (c .before .if1 .taken)
+
+-- src/lib.rt:339:9
+thread-fields-requires : tie.Need-thread-fields-requires
+thread-fields-requires c κs = search needs
+
+-- src/lib.rt:339:9
+returns-2 : tie.Need-returns-2
+unfolding wellFormed opOf
+returns-2 c = (c .thread-fields .ensures) ∙ rw (c .before .if2 .taken)
+
+-- src/lib.rt:342:9
+new-thread-fields-requires : tie.Need-new-thread-fields-requires
+new-thread-fields-requires c κs = search needs
+
+-- src/lib.rt:342:9
+returns-3 : tie.Need-returns-3
+unfolding wellFormed opOf
+returns-3 c = (c .new-thread-fields .ensures) ∙ rw (c .before .if3 .taken)
+
+-- src/lib.rt:344:5
+bare-fields-requires : tie.Need-bare-fields-requires
+bare-fields-requires c κs = search needs
+
+-- src/lib.rt:331:1
+returns-4 : tie.Need-returns-4
+unfolding wellFormed opOf
+returns-4 c = (c .bare-fields .ensures) ∙ sym (bare-op _ _ (omega arith) (omega arith) (c .before .before .before .if2 .left))
+
+pub handle-fields-spec : {M : Type 1} → statement M
+handle-fields-spec =
+    tie.close
+    (tie.spec
+    create-fields-requires
+    returns
+    thread-fields-requires
+    returns-2
+    new-thread-fields-requires
+    returns-3
+    bare-fields-requires
+    returns-4)

@@ -1,0 +1,42 @@
+use Prim.Native.Nat.{_-_, _≤_, _<_}
+use mathlib.Core.Path.{_≡_, refl, sym, ap, _∙_}
+use native.Mathlib.Omega.{arith}
+use lib.ListN.{List·getD-eq-default}
+use mathlib.Core.Bool.{Bool, cond, not}
+use lib.Dec.{eqb, ltb}
+use borrow.Author.Tests.{lt-ltb, le-ltb, le-leb, lt-leb, ltb-true, eq-eqb, ne-eqb, not-true, not-false}
+use Rattle.answer.specs.Tests.{tests, via}
+use Rattle.answer.specs.declared.Code.the-variants.{Ok, Einval, Eperm, Ebadf, Eaddrinuse}
+use Rattle.tables.specs.State.{object-of, thread-of, domain-of, object, thread, domain, threadsOf}
+use Rattle.tables.specs.declared.Thread.{Thread}
+use Rattle.userspace.specs.declared.KernelObject.{KernelObject}
+use Rattle.userspace.specs.declared.Validated.{Validated}
+use Rattle.userspace.specs.Userspace.{answerOf}
+use native.Mathlib.Nat.{mod-eq-of-lt}
+use Rattle.mem_domain.specs.Scan.{firstFrom, lowest, anyTo}
+use Rattle.mem_domain.proofs.Scan.{turn-hit, turn-miss, turn-none, any-at}
+use Rattle.judging.specs.Calls.{validate, grant, release, check, exit, opOf, sup, create, delete, thread as thread·op}
+use Rattle.judging.specs.Judge.{wellFormed, useOf, takenIn, rule, supRule, exitIn, judgeOp, done, serves as serves·spec, servingAt, createIn, namedIn, inheritIn, addIn, removeIn, withHandle}
+use Rattle.judging.proofs.Ops.{open-known, open-free, sup-known, sup-bound, bare-op, plain-rule, taken-use}
+use Rattle.judging.proofs.Order.{all-of, first-fails, second-fails, via-no, via-yes, stop, pass, stop-not, pass-not, bad-fields, bad-handle, to-rule, to-rule-bare}
+use borrow.Author.Needs.{needs}
+use Rattle.judging.proofs.is_serving.Statement.{statement}
+use Rattle.judging.proofs.is_serving.Tie as tie
+use Rattle.judging.proofs.is_serving.Reads as reads
+use Rattle.judging.proofs.is_serving.Lts as lts
+use Rattle.judging.proofs.thread_in.Reads as thread-in-reads
+
+-- src/lib.rt:145:9
+thread-in-requires : tie.Need-thread-in-requires
+thread-in-requires c κs = search needs
+
+-- src/lib.rt:147:9
+returns : tie.Need-returns
+returns c = sym (all-of (ap (λ (r : Thread). not (eqb (r .role) 0)) (sym (c .before .before .before .thread-in .ensures)) ∙ ap not (ne-eqb _ _ (c .before .if1 .taken))) refl) ∙ ?
+
+-- src/lib.rt:141:1
+returns-2 : tie.Need-returns-2
+returns-2 c = ?
+
+pub is-serving-spec : {M : Type 1} → statement M
+is-serving-spec = tie.close (tie.spec thread-in-requires returns returns-2)

@@ -1,0 +1,38 @@
+use mathlib.Core.Path.{_≡_, refl, sym, ap, _∙_}
+use native.Mathlib.Omega.{arith}
+use lib.ListN.{List·getD-eq-default}
+use borrow.Author.Tests.{lt-ltb, le-ltb, ltb-true, eq-eqb, ne-eqb, not-true, not-false}
+use Rattle.answer.specs.Tests.{tests, via}
+use Rattle.answer.specs.declared.Code.the-variants.{Ok, Einval, Eperm, Ebadf, Eaddrinuse}
+use Rattle.tables.specs.State.{object-of, thread-of, domain-of, object, thread, domain}
+use Rattle.judging.specs.Calls.{validate, grant, release, check, exit}
+use Rattle.judging.specs.Judge.{wellFormed, useOf, takenIn, rule, exitIn, judgeOp, done}
+use Rattle.judging.proofs.Order.{via-no, via-yes, stop, pass, stop-not, pass-not, bad-fields, bad-handle, to-rule, to-rule-bare}
+use borrow.Author.Needs.{needs}
+use Rattle.judging.proofs.may_use.Statement.{statement}
+use Rattle.judging.proofs.may_use.Tie as tie
+use Rattle.judging.proofs.may_use.Reads as reads
+use Rattle.judging.proofs.may_use.Lts as lts
+use Rattle.judging.proofs.is_supervisor.Reads as is-supervisor-reads
+use Rattle.judging.proofs.object_in.Reads as object-in-reads
+use Rattle.userspace.proofs.KernelObject.check_access.Reads as check-access-reads
+
+-- src/lib.rt:125:9
+object-in-requires : tie.Need-object-in-requires
+object-in-requires c κs = search needs
+
+-- src/lib.rt:126:23
+is-supervisor-requires : tie.Need-is-supervisor-requires
+is-supervisor-requires c κs = search needs
+
+-- src/lib.rt:126:5
+check-access-requires : tie.Need-check-access-requires
+check-access-requires c κs = search needs
+
+-- src/lib.rt:121:1
+returns : tie.Need-returns
+returns c = rw (← (c .before .before .object-in .ensures), ← (c .before .is-supervisor .ensures)) (c .check-access .ensures)
+
+pub may-use-spec : {M : Type 1} → statement M
+may-use-spec =
+    tie.close (tie.spec object-in-requires is-supervisor-requires check-access-requires returns)

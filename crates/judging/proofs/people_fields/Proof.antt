@@ -1,0 +1,70 @@
+use Rattle.judging.proofs.Order.{all-of, first-fails, second-fails, via-no, via-yes, stop, pass, stop-not, pass-not, bad-fields, bad-handle, to-rule, to-rule-bare}
+use Prim.Native.Nat.{_-_, _≤_, _<_}
+use mathlib.Core.Path.{_≡_, refl, sym, ap, _∙_}
+use native.Mathlib.Omega.{arith}
+use lib.ListN.{List·getD-eq-default}
+use mathlib.Core.Bool.{Bool, cond, not}
+use lib.Dec.{eqb, ltb}
+use borrow.Author.Tests.{lt-ltb, le-ltb, le-leb, lt-leb, ltb-true, eq-eqb, ne-eqb, not-true, not-false}
+use Rattle.answer.specs.Tests.{tests, via}
+use Rattle.answer.specs.declared.Code.the-variants.{Ok, Einval, Eperm, Ebadf, Eaddrinuse}
+use Rattle.tables.specs.State.{object-of, thread-of, domain-of, object, thread, domain, threadsOf}
+use Rattle.tables.specs.declared.Thread.{Thread}
+use Rattle.userspace.specs.declared.KernelObject.{KernelObject}
+use Rattle.userspace.specs.declared.Validated.{Validated}
+use Rattle.userspace.specs.Userspace.{answerOf}
+use native.Mathlib.Nat.{mod-eq-of-lt}
+use Rattle.mem_domain.specs.Scan.{firstFrom, lowest, anyTo}
+use Rattle.mem_domain.proofs.Scan.{turn-hit, turn-miss, turn-none, any-at}
+use Rattle.judging.specs.Calls.{validate, grant, release, check, exit, opOf, sup, create, delete, thread as thread·op}
+use Rattle.judging.specs.Judge.{wellFormed, useOf, takenIn, rule, supRule, exitIn, judgeOp, done, serves as serves·spec, servingAt, createIn, namedIn, inheritIn, addIn, removeIn, withHandle}
+use Rattle.judging.proofs.Ops.{open-known, open-free, sup-known, sup-bound, bare-op, plain-rule, taken-use}
+use borrow.Author.Needs.{needs}
+use Rattle.judging.proofs.people_fields.Statement.{statement}
+use Rattle.judging.proofs.people_fields.Tie as tie
+use Rattle.judging.proofs.people_fields.Reads as reads
+use Rattle.judging.proofs.people_fields.Lts as lts
+use Rattle.judging.proofs.assign_fields.Reads as assign-fields-reads
+use Rattle.judging.proofs.inherit_fields.Reads as inherit-fields-reads
+use Rattle.judging.proofs.thread_fields.Reads as thread-fields-reads
+
+-- src/lib.rt:384:9
+returns : tie.Need-returns
+returns c = ?
+
+-- src/lib.rt:387:9
+thread-fields-requires : tie.Need-thread-fields-requires
+thread-fields-requires c κs = search needs
+
+-- src/lib.rt:387:9
+returns-2 : tie.Need-returns-2
+unfolding opOf wellFormed
+returns-2 c = (c .thread-fields .ensures) ∙ ?
+
+-- src/lib.rt:390:9
+inherit-fields-requires : tie.Need-inherit-fields-requires
+inherit-fields-requires c κs = search needs
+
+-- src/lib.rt:390:9
+returns-3 : tie.Need-returns-3
+returns-3 c = ?
+
+-- src/lib.rt:392:5
+assign-fields-requires : tie.Need-assign-fields-requires
+assign-fields-requires c κs = search needs
+
+-- src/lib.rt:379:1
+returns-4 : tie.Need-returns-4
+returns-4 c = ?
+
+pub people-fields-spec : {M : Type 1} → statement M
+people-fields-spec =
+    tie.close
+    (tie.spec
+    returns
+    thread-fields-requires
+    returns-2
+    inherit-fields-requires
+    returns-3
+    assign-fields-requires
+    returns-4)

@@ -1,0 +1,74 @@
+use Prim.Native.Nat.{_-_, _≤_, _<_}
+use mathlib.Core.Path.{_≡_, refl, sym, ap, _∙_}
+use native.Mathlib.Omega.{arith}
+use lib.ListN.{List·getD-eq-default}
+use mathlib.Core.Bool.{Bool, cond, not}
+use lib.Dec.{eqb, ltb}
+use borrow.Author.Tests.{lt-ltb, le-ltb, le-leb, lt-leb, ltb-true, eq-eqb, ne-eqb, not-true, not-false}
+use Rattle.answer.specs.Tests.{tests, via}
+use Rattle.answer.specs.declared.Code.the-variants.{Ok, Einval, Eperm, Ebadf, Eaddrinuse}
+use Rattle.tables.specs.State.{object-of, thread-of, domain-of, object, thread, domain, threadsOf}
+use Rattle.tables.specs.declared.Thread.{Thread}
+use Rattle.userspace.specs.declared.KernelObject.{KernelObject}
+use Rattle.userspace.specs.declared.Validated.{Validated}
+use Rattle.userspace.specs.Userspace.{answerOf}
+use native.Mathlib.Nat.{mod-eq-of-lt}
+use Rattle.mem_domain.specs.Scan.{firstFrom, lowest, anyTo}
+use Rattle.mem_domain.proofs.Scan.{turn-hit, turn-miss, turn-none, any-at}
+use Rattle.judging.specs.Calls.{validate, grant, release, check, exit, opOf, sup, create, delete, thread as thread·op}
+use Rattle.judging.specs.Judge.{wellFormed, useOf, takenIn, rule, supRule, exitIn, judgeOp, done, serves as serves·spec, servingAt, createIn, namedIn, inheritIn, addIn, removeIn, withHandle}
+use Rattle.judging.proofs.Ops.{open-known, open-free, sup-known, sup-bound, bare-op, plain-rule, taken-use}
+use Rattle.judging.proofs.Order.{all-of, first-fails, second-fails, via-no, via-yes, stop, pass, stop-not, pass-not, bad-fields, bad-handle, to-rule, to-rule-bare}
+use Rattle.judging.proofs.serves.Statement.{statement}
+use Rattle.judging.proofs.serves.Tie as tie
+use Rattle.judging.proofs.serves.Reads as reads
+use Rattle.judging.proofs.serves.Lts as lts
+use Rattle.judging.proofs.is_serving.Reads as is-serving-reads
+
+abbrev Inv-loop : tie.InvT-loop
+Inv-loop threads h t₀ t = (t ≤ 64) × (lowest (servingAt (threadsOf threads) h) 64 ≡ firstFrom (servingAt (threadsOf threads) h) t (64 - t))
+
+abbrev μ-loop : tie.MeasureT-loop
+μ-loop threads h t₀ t = 64 - t
+
+-- src/lib.rt:158:5
+loop-holds : tie.Need-loop-holds Inv-loop μ-loop
+loop-holds c = (omega arith, refl)
+
+-- src/lib.rt:159:12
+is-serving-requires : tie.Need-is-serving-requires Inv-loop μ-loop
+is-serving-requires c κs = (c .before .before .before .pre)
+
+-- src/lib.rt:160:13
+returns : tie.Need-returns Inv-loop μ-loop
+returns c = sym (any-at _ 64 _ (c .before .before .loop-test .taken) (via (c .before .is-serving .ensures) (c .if1 .taken)))
+
+-- src/lib.rt:162:9
+add-t : tie.Need-add-t Inv-loop μ-loop
+add-t c = omega arith
+
+-- src/lib.rt:158:5
+loop-less : tie.Need-loop-less Inv-loop μ-loop
+loop-less c = omega arith
+
+-- src/lib.rt:158:5
+loop-again : tie.Need-loop-again Inv-loop μ-loop
+loop-again c = (omega arith, (c .before .before .before .loop .inv .1) ∙ turn-miss _ _ 64 (c .before .before .loop-test .taken) (via (c .before .is-serving .ensures) (c .if1 .left)))
+
+-- src/lib.rt:153:1
+returns-2 : tie.Need-returns-2 Inv-loop μ-loop
+returns-2 c = sym (turn-none _ _ 64 (c .loop-test .left) (c .before .loop .inv .1))
+
+pub serves-spec : {M : Type 1} → statement M
+serves-spec =
+    tie.close
+    (tie.spec
+    Inv-loop
+    μ-loop
+    loop-holds
+    is-serving-requires
+    returns
+    add-t
+    loop-less
+    loop-again
+    returns-2)

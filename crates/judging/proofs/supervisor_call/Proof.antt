@@ -1,0 +1,54 @@
+use borrow.Author.Needs.{needs}
+use Rattle.judging.proofs.supervisor_call.Statement.{statement}
+use Rattle.judging.proofs.supervisor_call.Tie as tie
+use Rattle.judging.proofs.supervisor_call.Reads as reads
+use Rattle.judging.proofs.supervisor_call.Lts as lts
+use Rattle.judging.proofs.add_call.Reads as add-call-reads
+use Rattle.judging.proofs.handle_call.Reads as handle-call-reads
+use Rattle.judging.proofs.people_call.Reads as people-call-reads
+use Rattle.judging.proofs.remove_call.Reads as remove-call-reads
+
+-- src/lib.rt:566:9
+handle-call-requires : tie.Need-handle-call-requires
+handle-call-requires c κs = search needs
+
+-- src/lib.rt:566:9
+returns : tie.Need-returns
+returns c = search needs
+
+-- src/lib.rt:569:9
+people-call-requires : tie.Need-people-call-requires
+people-call-requires c κs = search needs
+
+-- src/lib.rt:569:9
+returns-2 : tie.Need-returns-2
+returns-2 c = search needs
+
+-- src/lib.rt:572:9
+add-call-requires : tie.Need-add-call-requires
+add-call-requires c κs = search needs
+
+-- src/lib.rt:572:9
+returns-3 : tie.Need-returns-3
+returns-3 c = ?
+
+-- src/lib.rt:574:5
+remove-call-requires : tie.Need-remove-call-requires
+remove-call-requires c κs = search needs
+
+-- src/lib.rt:561:1
+returns-4 : tie.Need-returns-4
+returns-4 c = ?
+
+pub supervisor-call-spec : {M : Type 1} → statement M
+supervisor-call-spec =
+    tie.close
+    (tie.spec
+    handle-call-requires
+    returns
+    people-call-requires
+    returns-2
+    add-call-requires
+    returns-3
+    remove-call-requires
+    returns-4)
