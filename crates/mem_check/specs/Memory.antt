@@ -14,8 +14,11 @@ use Rattle.userspace.specs.Bit.{isSet}
 use Rattle.tables.specs.Table.{partitionsAt}
 
 -- attr: 1 read, 2 write
+abbrev pub rightBit : Bool → ℕ
+rightBit write = cond write 1 0
+
 unfoldable pub gives : MemPartition → Bool → Bool
-gives p write = isSet (p .attr) (cond write 1 0)
+gives p write = isSet (p .attr) (rightBit write)
 
 -- slot k is active, holds the address and gives the right
 abbrev pub coversAt : List MemPartition → Bool → ℕ → ℕ → Bool

@@ -1,0 +1,4 @@
+pub mod Memory
+pub mod Windows
+pub mod Cases
+pub mod Unique

@@ -1,0 +1,38 @@
+use mathlib.Core.Path.{_≡_, refl, sym, ap, _∙_}
+use native.Mathlib.Omega.{arith}
+use borrow.Author.Tests.{eq-eqb, ne-eqb, lt-ltb, le-ltb, le-leb, lt-leb}
+use Rattle.mem_check.specs.Memory.{memoryRule, reached, slotsIn, coveredRun}
+use Rattle.mem_check.proofs.Memory.{in-none, in-whole, run-off, none-covered}
+use borrow.Author.Needs.{needs}
+use Rattle.mem_check.proofs.covered_in.Statement.{statement}
+use Rattle.mem_check.proofs.covered_in.Tie as tie
+use Rattle.mem_check.proofs.covered_in.Reads as reads
+use Rattle.mem_check.proofs.covered_in.Lts as lts
+use Rattle.mem_check.proofs.covered.Reads as covered-reads
+
+-- src/lib.rt:89:27
+mul-if1 : tie.Need-mul-if1
+mul-if1 c = search needs
+
+-- src/lib.rt:89:27
+add-if1 : tie.Need-add-if1
+add-if1 c = search needs
+
+-- src/lib.rt:89:22
+mul-if1-2 : tie.Need-mul-if1-2
+mul-if1-2 c = search needs
+
+-- src/lib.rt:90:9
+returns : tie.Need-returns
+returns c = rw (in-none _ _ (c .if1 .taken)) (sym (run-off _ _ _ _ (none-covered _ _)))
+
+-- src/lib.rt:92:5
+covered-requires : tie.Need-covered-requires
+covered-requires c κs = search needs
+
+-- src/lib.rt:85:1
+returns-2 : tie.Need-returns-2
+returns-2 c = rw (in-whole _ _ (c .before .if1 .left)) (c .covered .ensures)
+
+pub covered-in-spec : {M : Type 1} → statement M
+covered-in-spec = tie.close (tie.spec mul-if1 add-if1 mul-if1-2 returns covered-requires returns-2)

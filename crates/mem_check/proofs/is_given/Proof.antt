@@ -1,0 +1,17 @@
+use mathlib.Core.Path.{_≡_, refl, sym, ap, _∙_}
+use Rattle.userspace.specs.Bit.{code-test}
+use Rattle.mem_check.proofs.is_given.Statement.{statement}
+use Rattle.mem_check.proofs.is_given.Tie as tie
+use Rattle.mem_check.proofs.is_given.Reads as reads
+use Rattle.mem_check.proofs.is_given.Lts as lts
+
+-- src/lib.rt:21:9
+returns : tie.Need-returns
+returns c = rw (c .if1 .taken) (code-test _ 1)
+
+-- src/lib.rt:17:1
+returns-2 : tie.Need-returns-2
+returns-2 c = rw (c .if1 .left) (code-test _ 0)
+
+pub is-given-spec : {M : Type 1} → statement M
+is-given-spec = tie.close (tie.spec returns returns-2)
