@@ -2,7 +2,8 @@
 use Prim.Native.Nat.{ℕ, zero, suc, _+_, _-_, _≤_, _<_}
 use native.Mathlib.Omega.{arith}
 use mathlib.Core.Path.{_≡_, refl, sym, ap, _∙_}
-use mathlib.Core.Logic.{_≢_}
+use mathlib.Core.Logic.{_≢_, ⊎-elim}
+use native.Mathlib.Nat.{eq-or-lt-of-le}
 use mathlib.Core.Bool.{Bool, true, false, cond, not, _&&_, _||_, false≢true}
 use lib.Dec.{eqb, ltb}
 use borrow.Author.Tests.{ne-eqb, not-true}
@@ -209,3 +210,16 @@ module _ (c : Call) where
     pub fields-26 : n ≡ 26 → wellFormed (opOf n) c ≡ ltb (c .b) THREADS && ((ltb (c .c) DOMAINS || eqb (c .c) 255) && eqb (c .d) 0)
     unfolding opOf wellFormed
     fields-26 p = ap (λ n. wellFormed (opOf n) c) p ∙ ap (λ b. b && (ltb (c .b) THREADS && ((ltb (c .c) DOMAINS || eqb (c .c) 255) && eqb (c .d) 0))) e
+
+-- ---- the last of some numbers, when it is none of the others
+beyond : {k n : ℕ} → k ≤ n → n ≢ k → k < n
+beyond {k} {n} l ne = ⊎-elim (λ (p : k ≡ n). absurd (ne (sym p))) (λ (p : k < n). p) (eq-or-lt-of-le l)
+
+pub last-open : {n : ℕ} → n < 5 → n ≢ 0 → n ≢ 1 → n ≢ 3 → n ≢ 2 → n ≡ 4
+last-open h a b d c = let e = beyond (beyond (beyond (beyond (omega arith) a) b) c) d in omega arith
+
+pub last-person : {n : ℕ} → 24 ≤ n → n ≤ 26 → n ≢ 24 → n ≢ 25 → n ≡ 26
+last-person l h a b = let e = beyond (beyond l a) b in omega arith
+
+pub last-sup : {n : ℕ} → 27 ≤ n → n ≤ 28 → n ≢ 27 → n ≡ 28
+last-sup l h a = let e = beyond l a in omega arith

@@ -6,17 +6,22 @@ use mathlib.Core.Bool.{Bool, true, false, cond, not, _&&_, true≢false, false�
 use mathlib.Core.List.{List}
 use lib.Dec.{eqb, ltb, leb}
 use lib.ListN.{getD}
-use borrow.Author.Tests.{lt-ltb, le-ltb, lt-leb, le-leb, not-true, not-false}
+use borrow.Author.Tests.{lt-ltb, le-ltb, lt-leb, le-leb, eq-eqb, ne-eqb, not-true, not-false}
+use mathlib.Core.Logic.{_≢_}
+use Rattle.tables.specs.declared.Thread.{Thread}
 use Rattle.answer.specs.declared.Answer.{Answer}
 use Rattle.answer.specs.declared.Code.{Code}
 use Rattle.answer.specs.declared.Code.the-variants.{Einval, Eperm, Ebadf, Eaddrinuse}
-use Rattle.userspace.specs.Userspace.{THREADS}
+use Rattle.userspace.specs.Userspace.{THREADS, answerOf}
+use Rattle.userspace.specs.declared.Validated.{Validated}
+use Rattle.userspace.specs.declared.Validated.the-variants.{Ok as Fine, Refused}
 use Rattle.userspace.specs.declared.KernelObject.{KernelObject}
 use Rattle.tables.specs.Table.{HANDLES, noObject}
 use Rattle.tables.specs.State.{State, object, thread}
+use Rattle.rules.specs.Rules.{isLive, isSupervisor}
 use Rattle.judging.specs.declared.Call.{Call}
 use Rattle.judging.specs.Calls.{Op, sup, unknown, opOf}
-use Rattle.judging.specs.Judge.{refused, done, _⇒_⨾_, live, supervisor, typeOf, wellFormed, Use, noHandle, taken, free, useOf, withHandle, rule, isUnknown, isPrivileged, judgeOp, judge, takenIn}
+use Rattle.judging.specs.Judge.{refused, done, _⇒_⨾_, live, supervisor, typeOf, wellFormed, Use, noHandle, taken, free, useOf, withHandle, rule, isUnknown, isPrivileged, judgeOp, judge, takenIn, plain}
 
 -- a callee's answer by its contract, and the branch that says what it is not
 pub via-no : {x y : Bool} → x ≡ y → not x ≡ true → y ≡ false
@@ -103,3 +108,60 @@ first-fails y p = ap (λ (b : Bool). b && y) p
 
 pub second-fails : {x y : Bool} → x ≡ true → y ≡ false → x && y ≡ false
 second-fails {x} {y} p q = ap (λ (b : Bool). b && y) p ∙ q
+
+-- a live thread with that handle, as the code finds it
+pub all-of-first :
+    (h : ℕ) {who it : Thread} → who ≡ it → who .role ≢ 0 →
+    not (eqb (it .role) 0) && eqb (it .handle) h ≡ eqb (who .handle) h
+all-of-first h {who} {it} e ne = rw (← e, ne-eqb (who .role) 0 ne)
+
+-- the caller's record as the code has it
+module _ {me it : Thread} (e : me ≡ it) where
+  pub role-dead : me .role ≡ 0 → isLive it ≡ false
+  role-dead z = rw (← e, eq-eqb (me .role) 0 z)
+
+  pub role-live : me .role ≢ 0 → isLive it ≡ true
+  role-live z = rw (← e, ne-eqb (me .role) 0 z)
+
+  pub role-sup : me .role ≡ 2 → isSupervisor it ≡ true
+  role-sup z = rw (← e) (eq-eqb (me .role) 2 z)
+
+  pub role-not : me .role ≢ 2 → isSupervisor it ≡ false
+  role-not z = rw (← e) (ne-eqb (me .role) 2 z)
+
+-- ---- the whole order
+module _ (s : State) (c : Call) where
+  pub bad-caller : THREADS ≤ c .caller → judge s c ≡ refused Einval
+  unfolding judge
+  bad-caller h = stop Einval _ (le-leb _ _ h)
+
+  module _ (known : c .caller < THREADS) where
+    pub dead-caller : live s (c .caller) ≡ false → judge s c ≡ refused Eperm
+    unfolding judge
+    dead-caller e = pass Einval _ (lt-leb _ _ known) ∙ stop-not Eperm _ e
+
+    module _ (lives : live s (c .caller) ≡ true) where
+      pub no-op : isUnknown (opOf (c .op)) ≡ true → judge s c ≡ refused Einval
+      unfolding judge
+      no-op u = pass Einval _ (lt-leb _ _ known) ∙ pass-not Eperm _ lives ∙ stop Einval _ u
+
+      module _ (op : isUnknown (opOf (c .op)) ≡ false) where
+        pub open-op : isPrivileged (opOf (c .op)) ≡ false → judge s c ≡ judgeOp (opOf (c .op)) s c
+        unfolding judge
+        open-op p = pass Einval _ (lt-leb _ _ known) ∙ pass-not Eperm _ lives ∙ pass Einval _ op ∙ pass Eperm _ (first-fails _ p)
+
+        pub not-theirs : isPrivileged (opOf (c .op)) ≡ true → supervisor s (c .caller) ≡ false → judge s c ≡ refused Eperm
+        unfolding judge
+        not-theirs p n = pass Einval _ (lt-leb _ _ known) ∙ pass-not Eperm _ lives ∙ pass Einval _ op ∙ stop Eperm _ (all-of p (ap not n))
+
+        pub theirs : isPrivileged (opOf (c .op)) ≡ true → supervisor s (c .caller) ≡ true → judge s c ≡ judgeOp (opOf (c .op)) s c
+        unfolding judge
+        theirs p y = pass Einval _ (lt-leb _ _ known) ∙ pass-not Eperm _ lives ∙ pass Einval _ op ∙ pass Eperm _ (second-fails p (ap not y))
+
+-- a validation's answer has value 0, whatever it is
+pub validated-plain : {v w : Validated} → v ≡ w → plain (answerOf v .code) ≡ answerOf w
+validated-plain {v} {w} e = go v ∙ ap answerOf e
+  where
+    go : (v : Validated) → plain (answerOf v .code) ≡ answerOf v
+    go Fine = refl
+    go (Refused n) = refl

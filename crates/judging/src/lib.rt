@@ -8,7 +8,7 @@ ghost use lib.Dec.{eqb, ltb, leb};
 ghost use lib.ListN.{getD, length};
 ghost use Rattle.tables.specs.Table.{noObject, nobody};
 ghost use Rattle.tables.specs.State.{objectsOf, threadsOf, domainsOf, stateOf};
-ghost use Rattle.userspace.specs.Userspace.{access};
+ghost use Rattle.userspace.specs.Userspace.{access, answerOf};
 ghost use Rattle.mem_domain.specs.Scan.{anyTo};
 ghost use Rattle.rules.specs.Rules.{isLive, isSupervisor};
 ghost use Rattle.judging.specs.Calls.{wordAt, callOf, opOf, validate as validate·op, grant as grant·op, release as release·op, check as check·op, exit as exit·op, sup, create, delete, thread as thread·op};
@@ -229,6 +229,15 @@ fn validate_fields(c: Call) -> bool
     false
 }
 
+fn number(v: Validated) -> u32
+    ensures { λ r. ⌜ r ≡ answerOf v .code ⌝ }
+{
+    match v {
+        Validated::Ok => OK,
+        Validated::Refused(n) => n,
+    }
+}
+
 fn validate_rule(objects: &[u64], threads: &[u32], slots: &[u32], c: Call) -> Answer
     requires { ⌜ Sized (now objects) (now threads) (now slots) × (c .b < 16) ⌝ }
     ensures { λ r. ⌜ r ≡ rule validate·op (stateOf (now (objects .entry)) (now (threads .entry)) (now (slots .entry))) c ⌝ }
@@ -236,10 +245,7 @@ fn validate_rule(objects: &[u64], threads: &[u32], slots: &[u32], c: Call) -> An
     let o = object_in(objects, c.a);
     let supervisor = is_supervisor(threads, c.caller);
     let mode = mode_of(c.c);
-    match o.validate(c.b as u8, c.caller, supervisor, mode) {
-        Validated::Ok => plain_answer(OK),
-        Validated::Refused(n) => plain_answer(n),
-    }
+    plain_answer(number(o.validate(c.b as u8, c.caller, supervisor, mode)))
 }
 
 fn validate(objects: &[u64], threads: &[u32], slots: &[u32], c: Call) -> Answer
@@ -299,6 +305,20 @@ fn release(objects: &[u64], threads: &[u32], slots: &[u32], c: Call) -> Answer
         return plain_answer(EPERM);
     }
     plain_answer(OK)
+}
+
+fn check(threads: &[u32], slots: &[u32], c: Call) -> Answer
+    requires { ⌜ (length (now threads) ≡ 192) × (length (now slots) ≡ 384) ⌝ }
+    ensures { λ r. ⌜ r ≡ checkIn (threadsOf (now (threads .entry))) (domainsOf (now (slots .entry))) c ⌝ }
+{
+    if c.a != 0 {
+        return plain_answer(EINVAL);
+    }
+    if 1 < c.d {
+        return plain_answer(EINVAL);
+    }
+    let me = thread_in(threads, c.caller);
+    mem_check::memory_check(slots, me.domain, me.role == 2, c.b, c.c, c.d == 1)
 }
 
 fn exit(c: Call) -> Answer
@@ -581,4 +601,71 @@ fn supervisor_call(objects: &[u64], threads: &[u32], slots: &[u32], c: Call) -> 
         return add_call(slots, c);
     }
     remove_call(slots, c)
+}
+
+// The calls that are open to all.
+fn open_call(objects: &[u64], threads: &[u32], slots: &[u32], c: Call) -> Answer
+    requires { ⌜ Sized (now objects) (now threads) (now slots) × (c .op < 5) ⌝ }
+    ensures { λ r. ⌜ r ≡ judgeOp (opOf (c .op)) (stateOf (now (objects .entry)) (now (threads .entry)) (now (slots .entry))) c ⌝ }
+{
+    if c.op == 0 {
+        return validate(objects, threads, slots, c);
+    }
+    if c.op == 1 {
+        return grant(objects, threads, slots, c);
+    }
+    if c.op == 3 {
+        return check(threads, slots, c);
+    }
+    if c.op == 2 {
+        return release(objects, threads, slots, c);
+    }
+    exit(c)
+}
+
+fn judge_sized(objects: &[u64], threads: &[u32], slots: &[u32], c: Call) -> Answer
+    requires { ⌜ Sized (now objects) (now threads) (now slots) ⌝ }
+    ensures { λ r. ⌜ r ≡ judge·spec (stateOf (now (objects .entry)) (now (threads .entry)) (now (slots .entry))) c ⌝ }
+{
+    if THREADS <= c.caller {
+        return plain_answer(EINVAL);
+    }
+    let me = thread_in(threads, c.caller);
+    if me.role == 0 {
+        return plain_answer(EPERM);
+    }
+    if c.op < 5 {
+        return open_call(objects, threads, slots, c);
+    }
+    if c.op < 16 {
+        return plain_answer(EINVAL);
+    }
+    if 28 < c.op {
+        return plain_answer(EINVAL);
+    }
+    if me.role != 2 {
+        return plain_answer(EPERM);
+    }
+    supervisor_call(objects, threads, slots, c)
+}
+
+fn is_sized(objects: usize, threads: usize, slots: usize) -> bool
+    ensures { λ r. ⌜ r ≡ eqb objects 512 && (eqb threads 192 && eqb slots 384) ⌝ }
+{
+    if objects == OBJECT_NUMBERS {
+        if threads == THREAD_NUMBERS {
+            return slots == SLOT_NUMBERS;
+        }
+    }
+    false
+}
+
+// The answer to a call: of tables with any content and any lengths. Whether the state keeps the rules is not asked here: the caller asks it once.
+pub fn judge(objects: &[u64], threads: &[u32], slots: &[u32], c: Call) -> Answer
+    ensures { λ r. ⌜ r ≡ judgeIn (now (objects .entry)) (now (threads .entry)) (now (slots .entry)) c ⌝ }
+{
+    if !is_sized(objects.len(), threads.len(), slots.len()) {
+        return plain_answer(VALUE);
+    }
+    judge_sized(objects, threads, slots, c)
 }

@@ -1,3 +1,7 @@
+use Rattle.judging.proofs.Order.{all-of-first, all-of, first-fails, second-fails, via-no, via-yes, stop, pass, stop-not, pass-not, bad-fields, bad-handle, to-rule, to-rule-bare}
+use Rattle.judging.proofs.Ops.{rule-18, rule-25, rule-one, create-is, check-is, exit-is, add-is, remove-is, people-bad, fields-24, fields-25, fields-26, no-use, no-op-between, above-unknown}
+use Rattle.mem_check.proofs.Memory.{slots-in}
+use Rattle.judging.specs.Judge.{checkIn, judge as judge·spec, judgeIn, sized, plain}
 use Rattle.judging.proofs.Order.{all-of, first-fails, second-fails, via-no, via-yes, stop, pass, stop-not, pass-not, bad-fields, bad-handle, to-rule, to-rule-bare}
 use Prim.Native.Nat.{_-_, _≤_, _<_}
 use mathlib.Core.Path.{_≡_, refl, sym, ap, _∙_}
@@ -48,7 +52,7 @@ create-rule-requires c κs = search needs
 
 -- src/lib.rt:487:9
 returns-2 : tie.Need-returns-2
-returns-2 c = ?
+returns-2 c = (c .create-rule .ensures) ∙ sym (create-is _ _ (c .before .if2 .taken) (via-yes (c .before .before .before .before .handle-fields .ensures) (c .before .before .before .if1 .left)))
 
 -- src/lib.rt:489:9
 is-taken-requires : tie.Need-is-taken-requires

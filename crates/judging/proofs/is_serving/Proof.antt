@@ -18,7 +18,10 @@ use Rattle.mem_domain.proofs.Scan.{turn-hit, turn-miss, turn-none, any-at}
 use Rattle.judging.specs.Calls.{validate, grant, release, check, exit, opOf, sup, create, delete, thread as thread·op}
 use Rattle.judging.specs.Judge.{wellFormed, useOf, takenIn, rule, supRule, exitIn, judgeOp, done, serves as serves·spec, servingAt, createIn, namedIn, inheritIn, addIn, removeIn, withHandle}
 use Rattle.judging.proofs.Ops.{open-known, open-free, sup-known, sup-bound, bare-op, plain-rule, taken-use}
-use Rattle.judging.proofs.Order.{all-of, first-fails, second-fails, via-no, via-yes, stop, pass, stop-not, pass-not, bad-fields, bad-handle, to-rule, to-rule-bare}
+use Rattle.judging.proofs.Order.{all-of-first, all-of, first-fails, second-fails, via-no, via-yes, stop, pass, stop-not, pass-not, bad-fields, bad-handle, to-rule, to-rule-bare}
+use Rattle.judging.proofs.Ops.{rule-18, rule-25, rule-one, create-is, check-is, exit-is, add-is, remove-is, people-bad, fields-24, fields-25, fields-26, no-use, no-op-between, above-unknown}
+use Rattle.mem_check.proofs.Memory.{slots-in}
+use Rattle.judging.specs.Judge.{checkIn, judge as judge·spec, judgeIn, sized, plain}
 use borrow.Author.Needs.{needs}
 use Rattle.judging.proofs.is_serving.Statement.{statement}
 use Rattle.judging.proofs.is_serving.Tie as tie
@@ -32,11 +35,11 @@ thread-in-requires c κs = search needs
 
 -- src/lib.rt:147:9
 returns : tie.Need-returns
-returns c = sym (all-of (ap (λ (r : Thread). not (eqb (r .role) 0)) (sym (c .before .before .before .thread-in .ensures)) ∙ ap not (ne-eqb _ _ (c .before .if1 .taken))) refl) ∙ ?
+returns c = sym (all-of-first ((c .before .before .before .before .before .args .h)) (c .before .before .before .thread-in .ensures) (c .before .if1 .taken))
 
 -- src/lib.rt:141:1
 returns-2 : tie.Need-returns-2
-returns-2 c = ?
+returns-2 c = sym (first-fails _ (ap (λ (r : Thread). not (eqb (r .role) 0)) (sym (c .before .before .thread-in .ensures)) ∙ ap not (eq-eqb _ _ (c .if1 .left))))
 
 pub is-serving-spec : {M : Type 1} → statement M
 is-serving-spec = tie.close (tie.spec thread-in-requires returns returns-2)

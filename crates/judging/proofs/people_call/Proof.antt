@@ -1,3 +1,7 @@
+use Rattle.judging.proofs.Order.{all-of-first, all-of, first-fails, second-fails, via-no, via-yes, stop, pass, stop-not, pass-not, bad-fields, bad-handle, to-rule, to-rule-bare}
+use Rattle.judging.proofs.Ops.{rule-18, rule-25, rule-one, create-is, check-is, exit-is, add-is, remove-is, people-bad, fields-24, fields-25, fields-26, no-use, no-op-between, above-unknown}
+use Rattle.mem_check.proofs.Memory.{slots-in}
+use Rattle.judging.specs.Judge.{checkIn, judge as judge·spec, judgeIn, sized, plain}
 use Rattle.judging.proofs.Order.{all-of, first-fails, second-fails, via-no, via-yes, stop, pass, stop-not, pass-not, bad-fields, bad-handle, to-rule, to-rule-bare}
 use Prim.Native.Nat.{_-_, _≤_, _<_}
 use mathlib.Core.Path.{_≡_, refl, sym, ap, _∙_}
@@ -47,7 +51,7 @@ inherit-rule-requires c κs = search needs
 
 -- src/lib.rt:514:9
 returns-2 : tie.Need-returns-2
-returns-2 c = ?
+returns-2 c = (c .inherit-rule .ensures) ∙ sym (to-rule-bare _ _ _ (via-yes (c .before .before .before .before .people-fields .ensures) (c .before .before .before .if1 .left)) (no-use _ (omega arith) (omega arith)) ∙ rule-25 _ _ (c .before .if2 .taken))
 
 -- src/lib.rt:516:5
 named-rule-requires : tie.Need-named-rule-requires
@@ -55,7 +59,7 @@ named-rule-requires c κs = search needs
 
 -- src/lib.rt:506:1
 returns-3 : tie.Need-returns-3
-returns-3 c = ?
+returns-3 c = (c .named-rule .ensures) ∙ sym (to-rule-bare _ _ _ (via-yes (c .before .before .before .before .people-fields .ensures) (c .before .before .before .if1 .left)) (no-use _ (omega arith) (omega arith)) ∙ rule-one _ _ (omega arith) (omega arith) (c .before .if2 .left))
 
 pub people-call-spec : {M : Type 1} → statement M
 people-call-spec =

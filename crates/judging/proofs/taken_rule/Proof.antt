@@ -1,4 +1,3 @@
-use Rattle.judging.proofs.Order.{all-of, first-fails, second-fails, via-no, via-yes, stop, pass, stop-not, pass-not, bad-fields, bad-handle, to-rule, to-rule-bare}
 use Prim.Native.Nat.{_-_, _≤_, _<_}
 use mathlib.Core.Path.{_≡_, refl, sym, ap, _∙_}
 use native.Mathlib.Omega.{arith}
@@ -19,6 +18,10 @@ use Rattle.mem_domain.proofs.Scan.{turn-hit, turn-miss, turn-none, any-at}
 use Rattle.judging.specs.Calls.{validate, grant, release, check, exit, opOf, sup, create, delete, thread as thread·op}
 use Rattle.judging.specs.Judge.{wellFormed, useOf, takenIn, rule, supRule, exitIn, judgeOp, done, serves as serves·spec, servingAt, createIn, namedIn, inheritIn, addIn, removeIn, withHandle}
 use Rattle.judging.proofs.Ops.{open-known, open-free, sup-known, sup-bound, bare-op, plain-rule, taken-use}
+use Rattle.judging.proofs.Order.{all-of-first, all-of, first-fails, second-fails, via-no, via-yes, stop, pass, stop-not, pass-not, bad-fields, bad-handle, to-rule, to-rule-bare}
+use Rattle.judging.proofs.Ops.{rule-18, rule-25, rule-one, create-is, check-is, exit-is, add-is, remove-is, people-bad, fields-24, fields-25, fields-26, no-use, no-op-between, above-unknown}
+use Rattle.mem_check.proofs.Memory.{slots-in}
+use Rattle.judging.specs.Judge.{checkIn, judge as judge·spec, judgeIn, sized, plain}
 use borrow.Author.Needs.{needs}
 use Rattle.judging.proofs.taken_rule.Statement.{statement}
 use Rattle.judging.proofs.taken_rule.Tie as tie
@@ -29,41 +32,41 @@ use Rattle.judging.proofs.delete_rule.Reads as delete-rule-reads
 use Rattle.judging.proofs.named_rule.Reads as named-rule-reads
 use Rattle.judging.proofs.plain_answer.Reads as plain-answer-reads
 
--- src/lib.rt:453:9
+-- src/lib.rt:476:9
 delete-rule-requires : tie.Need-delete-rule-requires
 delete-rule-requires c κs = search needs
 
--- src/lib.rt:453:9
+-- src/lib.rt:476:9
 returns : tie.Need-returns
 unfolding opOf rule supRule
 returns c = (c .delete-rule .ensures) ∙ rw (c .before .if1 .taken)
 
--- src/lib.rt:456:9
+-- src/lib.rt:479:9
 named-rule-requires : tie.Need-named-rule-requires
 named-rule-requires c κs = search needs
 
--- src/lib.rt:456:9
+-- src/lib.rt:479:9
 returns-2 : tie.Need-returns-2
 unfolding opOf rule supRule
-returns-2 c = ?
+returns-2 c = (c .named-rule .ensures) ∙ sym (rule-18 _ _ (c .before .if2 .taken))
 
--- src/lib.rt:459:9
+-- src/lib.rt:482:9
 create-thread-rule-requires : tie.Need-create-thread-rule-requires
 create-thread-rule-requires c κs = search needs
 
--- src/lib.rt:459:9
+-- src/lib.rt:482:9
 returns-3 : tie.Need-returns-3
 unfolding opOf rule supRule
 returns-3 c = (c .create-thread-rule .ensures) ∙ rw (c .before .if3 .taken)
 
--- src/lib.rt:461:5
+-- src/lib.rt:484:5
 plain-answer-requires : tie.Need-plain-answer-requires
 plain-answer-requires c κs = search needs
 
--- src/lib.rt:448:1
+-- src/lib.rt:471:1
 returns-4 : tie.Need-returns-4
 unfolding opOf rule supRule
-returns-4 c = (c .plain-answer .ensures) ∙ sym (plain-rule _ _ _ (omega arith) (omega arith))
+returns-4 c = (c .plain-answer .ensures) ∙ sym (plain-rule _ _ ((c .before .before .before .before .before .before .before .before .before .before .args .c .op)) (omega arith) (omega arith))
 
 pub taken-rule-spec : {M : Type 1} → statement M
 taken-rule-spec =

@@ -1,3 +1,14 @@
+use Rattle.domain_rules.proofs.All.{both-true}
+use Rattle.judging.proofs.Order.{all-of, first-fails, second-fails, via-no, via-yes, stop, pass, stop-not, pass-not, bad-fields, bad-handle, to-rule, to-rule-bare}
+use Rattle.judging.proofs.Ops.{rule-18, rule-25, rule-one, create-is, check-is, exit-is, add-is, remove-is, people-bad, fields-24, fields-25, fields-26, no-use, no-op-between, above-unknown}
+use Rattle.mem_check.proofs.Memory.{slots-in}
+use Rattle.mem_domain.specs.Domain.{withCount, added, removed}
+use Rattle.mem_domain.specs.declared.Changed.{Changed}
+use Rattle.mem_domain.specs.declared.MemDomain.{MemDomain}
+use Rattle.judging.specs.Judge.{checkIn, judge as judge·spec, judgeIn, sized, plain, slotAnswer, partitionOf}
+use Rattle.judging.proofs.Order.{bad-caller, dead-caller, no-op, open-op, not-theirs, theirs, role-live, role-dead, role-sup, role-not}
+use Rattle.judging.proofs.Ops.{last-open, last-person, last-sup}
+use Rattle.judging.proofs.Sizes.{sized-by, by-sized, unsized}
 use Prim.Native.Nat.{_-_, _≤_, _<_}
 use mathlib.Core.Bool.{Bool, cond, not}
 use lib.Dec.{eqb, ltb}
@@ -61,7 +72,8 @@ returns-2 c = (c .plain-answer2 .ensures) ∙ sym (bad-handle validate _ _ (via-
 
 -- src/lib.rt:243:5
 validate-rule-requires : tie.Need-validate-rule-requires
-validate-rule-requires c κs = ?
+unfolding wellFormed
+validate-rule-requires c κs = ((c .before .before .before .before .before .before .before .pre), ltb-true _ _ (both-true _ _ (via-yes (c .before .before .before .validate-fields .ensures) (c .before .before .if1 .left)) .0))
 
 -- src/lib.rt:233:1
 returns-3 : tie.Need-returns-3

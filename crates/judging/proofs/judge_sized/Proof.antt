@@ -1,0 +1,124 @@
+use Prim.Native.Nat.{_-_, _≤_, _<_}
+use mathlib.Core.Path.{_≡_, refl, sym, ap, _∙_}
+use native.Mathlib.Omega.{arith}
+use lib.ListN.{List·getD-eq-default}
+use mathlib.Core.Bool.{Bool, cond, not}
+use lib.Dec.{eqb, ltb}
+use borrow.Author.Tests.{lt-ltb, le-ltb, le-leb, lt-leb, ltb-true, eq-eqb, ne-eqb, not-true, not-false}
+use Rattle.answer.specs.Tests.{tests, via}
+use Rattle.answer.specs.declared.Code.the-variants.{Ok, Einval, Eperm, Ebadf, Eaddrinuse}
+use Rattle.tables.specs.State.{object-of, thread-of, domain-of, object, thread, domain, threadsOf}
+use Rattle.tables.specs.declared.Thread.{Thread}
+use Rattle.userspace.specs.declared.KernelObject.{KernelObject}
+use Rattle.userspace.specs.declared.Validated.{Validated}
+use Rattle.userspace.specs.Userspace.{answerOf}
+use native.Mathlib.Nat.{mod-eq-of-lt}
+use Rattle.mem_domain.specs.Scan.{firstFrom, lowest, anyTo}
+use Rattle.mem_domain.proofs.Scan.{turn-hit, turn-miss, turn-none, any-at}
+use Rattle.judging.specs.Calls.{validate, grant, release, check, exit, opOf, sup, create, delete, thread as thread·op}
+use Rattle.judging.specs.Judge.{wellFormed, useOf, takenIn, rule, supRule, exitIn, judgeOp, done, serves as serves·spec, servingAt, createIn, namedIn, inheritIn, addIn, removeIn, withHandle}
+use Rattle.judging.proofs.Ops.{open-known, open-free, sup-known, sup-bound, bare-op, plain-rule, taken-use}
+use Rattle.judging.proofs.Order.{all-of, first-fails, second-fails, via-no, via-yes, stop, pass, stop-not, pass-not, bad-fields, bad-handle, to-rule, to-rule-bare}
+use Rattle.judging.proofs.Ops.{rule-18, rule-25, rule-one, create-is, check-is, exit-is, add-is, remove-is, people-bad, fields-24, fields-25, fields-26, no-use, no-op-between, above-unknown}
+use Rattle.mem_check.proofs.Memory.{slots-in}
+use Rattle.mem_domain.specs.Domain.{withCount, added, removed}
+use Rattle.mem_domain.specs.declared.Changed.{Changed}
+use Rattle.mem_domain.specs.declared.MemDomain.{MemDomain}
+use Rattle.judging.specs.Judge.{checkIn, judge as judge·spec, judgeIn, sized, plain, slotAnswer, partitionOf}
+use Rattle.judging.proofs.Order.{bad-caller, dead-caller, no-op, open-op, not-theirs, theirs, role-live, role-dead, role-sup, role-not}
+use borrow.Author.Needs.{needs}
+use Rattle.judging.proofs.judge_sized.Statement.{statement}
+use Rattle.judging.proofs.judge_sized.Tie as tie
+use Rattle.judging.proofs.judge_sized.Reads as reads
+use Rattle.judging.proofs.judge_sized.Lts as lts
+use Rattle.judging.proofs.open_call.Reads as open-call-reads
+use Rattle.judging.proofs.plain_answer.Reads as plain-answer-reads
+use Rattle.judging.proofs.supervisor_call.Reads as supervisor-call-reads
+use Rattle.judging.proofs.thread_in.Reads as thread-in-reads
+
+-- src/lib.rt:625:9
+plain-answer-requires : tie.Need-plain-answer-requires
+plain-answer-requires c κs = search needs
+
+-- src/lib.rt:625:9
+returns : tie.Need-returns
+unfolding thread
+returns c = (c .plain-answer .ensures) ∙ sym (bad-caller _ _ (c .before .if1 .taken))
+
+-- src/lib.rt:627:9
+thread-in-requires : tie.Need-thread-in-requires
+thread-in-requires c κs = search needs
+
+-- src/lib.rt:629:9
+plain-answer-requires-2 : tie.Need-plain-answer-requires-2
+plain-answer-requires-2 c κs = search needs
+
+-- src/lib.rt:629:9
+returns-2 : tie.Need-returns-2
+unfolding thread
+returns-2 c = (c .plain-answer2 .ensures) ∙ sym (dead-caller _ _ (c .before .before .before .before .if1 .left) (role-dead (c .before .before .before .thread-in .ensures) (c .before .if2 .taken)))
+
+-- src/lib.rt:632:9
+open-call-requires : tie.Need-open-call-requires
+open-call-requires c κs = search needs
+
+-- src/lib.rt:632:9
+returns-3 : tie.Need-returns-3
+unfolding thread
+returns-3 c = (c .open-call .ensures) ∙ sym (open-op _ _ (c .before .before .before .before .before .before .if1 .left) (role-live (c .before .before .before .before .before .thread-in .ensures) (c .before .before .before .if2 .left)) (open-known _ (c .before .if3 .taken)) (open-free _ (c .before .if3 .taken)))
+
+-- src/lib.rt:635:9
+plain-answer-requires-3 : tie.Need-plain-answer-requires-3
+plain-answer-requires-3 c κs = search needs
+
+-- src/lib.rt:635:9
+returns-4 : tie.Need-returns-4
+unfolding thread
+returns-4 c = (c .plain-answer3 .ensures) ∙ sym (no-op _ _ (c .before .before .before .before .before .before .before .before .if1 .left) (role-live (c .before .before .before .before .before .before .before .thread-in .ensures) (c .before .before .before .before .before .if2 .left)) (no-op-between _ (c .before .before .before .if3 .left) (c .before .if4 .taken)))
+
+-- src/lib.rt:638:9
+plain-answer-requires-4 : tie.Need-plain-answer-requires-4
+plain-answer-requires-4 c κs = search needs
+
+-- src/lib.rt:638:9
+returns-5 : tie.Need-returns-5
+unfolding thread
+returns-5 c = (c .plain-answer4 .ensures) ∙ sym (no-op _ _ (c .before .before .before .before .before .before .before .before .before .before .if1 .left) (role-live (c .before .before .before .before .before .before .before .before .before .thread-in .ensures) (c .before .before .before .before .before .before .before .if2 .left)) (above-unknown _ (c .before .if5 .taken)))
+
+-- src/lib.rt:641:9
+plain-answer-requires-5 : tie.Need-plain-answer-requires-5
+plain-answer-requires-5 c κs = search needs
+
+-- src/lib.rt:641:9
+returns-6 : tie.Need-returns-6
+unfolding thread
+returns-6 c = (c .plain-answer5 .ensures) ∙ sym (not-theirs _ _ (c .before .before .before .before .before .before .before .before .before .before .before .before .if1 .left) (role-live (c .before .before .before .before .before .before .before .before .before .before .before .thread-in .ensures) (c .before .before .before .before .before .before .before .before .before .if2 .left)) (sup-known _ (c .before .before .before .before .before .if4 .left) (c .before .before .before .if5 .left)) (sup-bound _ (c .before .before .before .before .before .if4 .left) (c .before .before .before .if5 .left)) (role-not (c .before .before .before .before .before .before .before .before .before .before .before .thread-in .ensures) (c .before .if6 .taken)))
+
+-- src/lib.rt:643:5
+supervisor-call-requires : tie.Need-supervisor-call-requires
+supervisor-call-requires c κs = search needs
+
+-- src/lib.rt:620:1
+returns-7 : tie.Need-returns-7
+unfolding thread
+returns-7 c = (c .supervisor-call .ensures) ∙ sym (theirs _ _ (c .before .before .before .before .before .before .before .before .before .before .before .before .if1 .left) (role-live (c .before .before .before .before .before .before .before .before .before .before .before .thread-in .ensures) (c .before .before .before .before .before .before .before .before .before .if2 .left)) (sup-known _ (c .before .before .before .before .before .if4 .left) (c .before .before .before .if5 .left)) (sup-bound _ (c .before .before .before .before .before .if4 .left) (c .before .before .before .if5 .left)) (role-sup (c .before .before .before .before .before .before .before .before .before .before .before .thread-in .ensures) (c .before .if6 .left)))
+
+pub judge-sized-spec : {M : Type 1} → statement M
+judge-sized-spec =
+    tie.close
+    (tie.spec
+    plain-answer-requires
+    returns
+    thread-in-requires
+    plain-answer-requires-2
+    returns-2
+    open-call-requires
+    returns-3
+    plain-answer-requires-3
+    returns-4
+    plain-answer-requires-4
+    returns-5
+    plain-answer-requires-5
+    returns-6
+    supervisor-call-requires
+    returns-7)
