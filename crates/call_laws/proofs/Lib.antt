@@ -1,0 +1,4 @@
+pub mod Cascade
+pub mod Enact
+pub mod Passed
+pub mod Parts
