@@ -5,7 +5,7 @@ use native.Mathlib.Decide.{decLt, ℕ-discrete}
 use native.Mathlib.Omega.{arith}
 use mathlib.Core.Path.{_≡_, refl, sym, ap, ap₂, _∙_}
 use mathlib.Core.Logic.{_≢_, _⊎_}
-use mathlib.Core.Bool.{Bool, true, false, cond, true≢false, false≢true}
+use mathlib.Core.Bool.{Bool, true, false, cond, _&&_, true≢false, false≢true}
 use mathlib.Core.List.{List, []}
 use lib.Dec.{eqb, ltb, lit<, lit≤}
 use lib.ListN.{length, getD}
@@ -96,6 +96,30 @@ changed-keeps P t o o′ p q = go (ltb t THREADS)
     go true = q
     go false = p
 
+pub clear-zero : (t : ℕ) → clearBit 0 t ≡ 0
+unfolding clearBit
+clear-zero t = refl
+
+-- nothing comes of a free handle
+pub revoked-none : (t : ℕ) → revoked noObject t .object ≡ noObject
+unfolding revoked
+revoked-none t = changed-keeps (λ x. x ≡ noObject) t noObject (withWord noObject (clearBit 0 t)) refl (ap (withWord noObject) (clear-zero t))
+
+-- a bit that is set after a clearing was set before, and is another
+pub clear-set : (w t u : ℕ) → isSet (clearBit w t) u ≡ true → isSet w u ≡ true
+clear-set w t u e = go (ℕ-discrete u t)
+  where
+    go : Dec (u ≡ t) → isSet w u ≡ true
+    go (yes q) = absurd (true≢false (sym e ∙ ap (isSet (clearBit w t)) q ∙ is-clear-same w t))
+    go (no n) = sym (is-clear-other w t u n) ∙ e
+
+-- four flags stay four flags
+pub flags-set : (n k : ℕ) → n ≤ 15 → k < 4 → setBit n k ≤ 15
+flags-set n k b l = omega (arith, set-lt 4 n k (omega arith) l)
+
+pub flags-clear : (n k : ℕ) → n ≤ 15 → clearBit n k ≤ 15
+flags-clear n k b = omega (arith, clear-lt 4 n k (omega arith))
+
 module _ {ts : List Thread} {h : ℕ} {o : KernelObject} (f : FineObject ts h o) where
   -- another word: every bit a live thread's, and 0 where the handle is free
   pub fine-word : (w : ℕ) → (o ≡ noObject → w ≡ 0) → ((t : ℕ) → isSet w t ≡ true → isLive (threadIn ts t) ≡ true) → FineObject ts h (withWord o w)
@@ -105,3 +129,57 @@ module _ {ts : List Thread} {h : ℕ} {o : KernelObject} (f : FineObject ts h o)
   -- other flags of a taken handle
   pub fine-flags : (n : ℕ) → o .«obj_type» ≢ 0 → n ≤ 15 → FineObject ts h (withFlags o n)
   fine-flags n y b = record { types = f .types; flags = b; free = λ e. absurd (y e); bits = f .bits; body = f .body }
+
+  -- the bit of a live thread is set, on a taken handle
+  pub fine-granted : (t : ℕ) → o .«obj_type» ≢ 0 → isLive (threadIn ts t) ≡ true → FineObject ts h (granted o t .object)
+  unfolding granted
+  fine-granted t y l =
+      changed-keeps (FineObject ts h) t o (withWord o (setBit (o .word) t)) f (fine-word (setBit (o .word) t) (λ e. absurd (y (ap (λ x. x .«obj_type») e))) bit)
+    where
+      bit : (u : ℕ) → isSet (setBit (o .word) t) u ≡ true → isLive (threadIn ts u) ≡ true
+      bit u e = go (ℕ-discrete u t)
+        where
+          go : Dec (u ≡ t) → isLive (threadIn ts u) ≡ true
+          go (yes q) = rw q l
+          go (no n) = f .bits u (sym (is-set-other (o .word) t u n) ∙ e)
+
+  -- a bit is cleared, on any handle
+  pub fine-revoked : (t : ℕ) → FineObject ts h (revoked o t .object)
+  unfolding revoked
+  fine-revoked t =
+      changed-keeps (FineObject ts h) t o (withWord o (clearBit (o .word) t)) f
+      (fine-word (clearBit (o .word) t) (λ e. ap (λ x. clearBit (x .word) t) e ∙ clear-zero t) (λ u e. f .bits u (clear-set (o .word) t u e)))
+
+  -- recycled by a live thread: its bit alone, the initialised flag
+  pub fine-recycled : (t : ℕ) → o .«obj_type» ≢ 0 → isLive (threadIn ts t) ≡ true → FineObject ts h (recycled o t .object)
+  unfolding recycled
+  fine-recycled t y l =
+      changed-keeps (FineObject ts h) t o (withWord (initiated o) (setBit 0 t)) f
+      (record { types = f .types; flags = flags-set (o .flags) INITIALISED (f .flags) (lit< tt); free = λ e. absurd (y e); bits = bit; body = f .body })
+    where
+      bit : (u : ℕ) → isSet (setBit 0 t) u ≡ true → isLive (threadIn ts u) ≡ true
+      bit u e = go (ℕ-discrete u t)
+        where
+          go : Dec (u ≡ t) → isLive (threadIn ts u) ≡ true
+          go (yes q) = rw q l
+          go (no n) = absurd (true≢false (sym e ∙ is-set-other 0 t u n ∙ is-zero u))
+
+  pub fine-inherited : (p c : ℕ) → isLive (threadIn ts c) ≡ true → FineObject ts h (inherited p c o)
+  unfolding inherited holds
+  fine-inherited p c l = go (ltb p THREADS) (isSet (o .word) p) refl
+    where
+      go : (a b : Bool) → isSet (o .word) p ≡ b → FineObject ts h (cond (a && b) (granted o c .object) o)
+      go false b e = f
+      go true false e = f
+      go true true e = fine-granted c (λ y. true≢false (sym e ∙ ap (λ x. isSet (x .word) p) (f .free y) ∙ is-zero p)) l
+
+-- a new object of a type, or none, where no live thread has the handle
+pub fine-fresh : {ts : List Thread} {h : ℕ} (y : ℕ) → y ≤ 15 → ((t : ℕ) → isLive (threadIn ts t) ≡ true → threadIn ts t .handle ≢ h) → FineObject ts h (newObject y)
+fine-fresh y b n =
+    record {
+      types = b;
+      flags = lit≤ tt;
+      free = λ e. ap newObject e;
+      bits = λ t e. absurd (true≢false (sym e ∙ is-zero t));
+      body = λ t l e. absurd (n t l e);
+    }
