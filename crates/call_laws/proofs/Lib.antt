@@ -4,3 +4,6 @@ pub mod Passed
 pub mod Parts
 pub mod Slots
 pub mod Keeps
+pub mod Iff
+pub mod Bytes
+pub mod Conditions
