@@ -7,3 +7,4 @@ pub mod Keeps
 pub mod Iff
 pub mod Bytes
 pub mod Conditions
+pub mod Operations
