@@ -8,3 +8,4 @@ pub mod Iff
 pub mod Bytes
 pub mod Conditions
 pub mod Operations
+pub mod Order

@@ -1,0 +1,191 @@
+-- The order of refusals as a list of tests, for every operation: a call is refused with a code exactly when the first test of the list that holds has
+-- it. The one answer that is no test's is the memory check's EPERM with an address.
+use Prim.Native.Nat.{ℕ, _+_, _<_}
+use native.Mathlib.Omega.{arith}
+use mathlib.Core.Path.{_≡_, refl, sym, ap, _∙_, subst}
+use mathlib.Core.Logic.{_↔_, _⊎_, inl, inr, _≢_}
+use mathlib.Core.Bool.{Bool, true, false, cond, not, _&&_, _||_, true≢false, false≢true}
+use mathlib.Core.List.{List, [], _∷_, _++_}
+use lib.Dec.{eqb, ltb, leb, lit<}
+use borrow.Author.Tests.{not-false}
+use Rattle.answer.specs.declared.Answer.{Answer}
+use Rattle.answer.specs.declared.Code.{Code}
+use Rattle.answer.specs.declared.Code.the-variants.{Ok, Einval, Eperm, Ebadf, Eaddrinuse, Enospc, Enoent}
+use Rattle.answer.specs.Answer.{numberOf}
+use Rattle.mem_domain.specs.declared.MemPartition.{MemPartition}
+use Rattle.mem_domain.specs.Domain.{addable, hasFree, hasWindow, lowestFree, lowestWindow, withCount, changedAt, added, removed}
+use Rattle.userspace.specs.declared.InitCheck.the-variants.{MustBeInit, MustNotBeInit, DontCare}
+use Rattle.userspace.specs.declared.Validated.the-variants.{Refused}
+use Rattle.userspace.specs.Userspace.{THREADS, typeFits, initialised, initJudged, judged, validated, answerOf}
+use Rattle.tables.specs.Table.{HANDLES}
+use Rattle.tables.specs.State.{State, object, thread, domain}
+use Rattle.mem_check.specs.Memory.{coveredRun, reached, memoryRule}
+use Rattle.judging.specs.declared.Call.{Call}
+use Rattle.judging.specs.Calls.{Sup, create, delete, revoke, init, uninit, recycle, publish, thread as newThread, end, inherit, assign, add, remove, Op, validate, grant, release, check, exit, sup, unknown, opOf}
+use Rattle.judging.specs.Judge.{done, refused, _⇒_⨾_, live, supervisor, typeOf, mayUse, serves, modeOf, wellFormed, partitionOf, slotAnswer, Use, noHandle, taken, free, useOf, withHandle, rule, supRule, isUnknown, isPrivileged, judgeOp, judge}
+use Rattle.call_laws.proofs.Cascade.{stop, pass, past, Test, firstOf, testAt, FirstAt, None, Verdict, by, none, verdict, refuses, lets}
+use Rattle.call_laws.proofs.Conditions.{Mode, mode-iff, Fields, fields-iff}
+
+-- ---- the tests
+
+unfoldable pub handleTests : Use → State → ℕ → List Test
+handleTests noHandle s h = []
+handleTests taken s h = (leb HANDLES h, Ebadf) ∷ (eqb (typeOf s h) 0, Ebadf) ∷ []
+handleTests free s h = (leb HANDLES h, Ebadf) ∷ (not (eqb (typeOf s h) 0), Eaddrinuse) ∷ []
+
+unfoldable pub ruleTests : Op → State → Call → List Test
+ruleTests validate s c =
+    (not (typeFits (c .b) (typeOf s (c .a))), Ebadf)
+    ∷ (not (mayUse s (c .caller) (c .a)), Eperm)
+    ∷ (eqb (c .c) 0 && not (initialised (object s (c .a))), Einval)
+    ∷ (eqb (c .c) 4294967295 && initialised (object s (c .a)), Eaddrinuse)
+    ∷ []
+ruleTests grant s c =
+    (not (mayUse s (c .caller) (c .a)), Eperm)
+    ∷ (not (live s (c .b)), Einval)
+    ∷ (not (mayUse s (c .caller) (thread s (c .b) .handle)), Eperm)
+    ∷ []
+ruleTests release s c = (not (mayUse s (c .caller) (c .a)), Eperm) ∷ []
+ruleTests check s c = (eqb (c .c) 0 || ltb 4294967295 (c .b + c .c), Einval) ∷ []
+ruleTests exit s c = []
+ruleTests (sup create) s c = []
+ruleTests (sup delete) s c = (serves s (c .a), Eaddrinuse) ∷ []
+ruleTests (sup revoke) s c = (not (live s (c .b)), Einval) ∷ []
+ruleTests (sup init) s c = []
+ruleTests (sup uninit) s c = []
+ruleTests (sup recycle) s c = []
+ruleTests (sup publish) s c = []
+ruleTests (sup newThread) s c = (live s (c .b), Eaddrinuse) ∷ (not (eqb (typeOf s (c .a)) 1), Ebadf) ∷ (serves s (c .a), Eaddrinuse) ∷ []
+ruleTests (sup end) s c = (not (live s (c .b)), Einval) ∷ []
+ruleTests (sup inherit) s c = (not (live s (c .b)), Einval) ∷ (not (live s (c .c)), Einval) ∷ []
+ruleTests (sup assign) s c = (not (live s (c .b)), Einval) ∷ []
+ruleTests (sup add) s c = (not (addable (domain s (c .a)) (partitionOf c)), Einval) ∷ (not (hasFree (domain s (c .a))), Enospc) ∷ []
+ruleTests (sup remove) s c = (eqb (c .c) 0 || not (hasWindow (domain s (c .a)) (c .b) (c .c)), Enoent) ∷ []
+ruleTests unknown s c = (true, Einval) ∷ []
+
+abbrev pub orderOf : Op → State → Call → List Test
+orderOf o s c =
+    (leb THREADS (c .caller), Einval)
+    ∷ (not (live s (c .caller)), Eperm)
+    ∷ (isUnknown o, Einval)
+    ∷ (isPrivileged o && not (supervisor s (c .caller)), Eperm)
+    ∷ (not (wellFormed o c), Einval)
+    ∷ (handleTests (useOf o) s (c .a) ++ ruleTests o s c)
+
+unfoldable pub order : State → Call → List Test
+order s c = orderOf (opOf (c .op)) s c
+
+-- ---- what is answered where none of them holds
+
+-- add and remove answer the slot; the memory check walks, but for supervisors; all others answer OK and 0
+unfoldable pub ending : Op → State → Call → Answer
+ending validate s c = done
+ending grant s c = done
+ending release s c = done
+ending check s c =
+    cond (supervisor s (c .caller)) done
+    (reached (c .b) (c .c) (coveredRun (domain s (thread s (c .caller) .domain)) (eqb (c .d) 1) (c .b) (c .c)))
+ending exit s c = done
+ending (sup create) s c = done
+ending (sup delete) s c = done
+ending (sup revoke) s c = done
+ending (sup init) s c = done
+ending (sup uninit) s c = done
+ending (sup recycle) s c = done
+ending (sup publish) s c = done
+ending (sup newThread) s c = done
+ending (sup end) s c = done
+ending (sup inherit) s c = done
+ending (sup assign) s c = done
+ending (sup add) s c = record { code = 0; value = lowestFree (domain s (c .a)) }
+ending (sup remove) s c = record { code = 0; value = lowestWindow (domain s (c .a)) (c .b) (c .c) }
+ending unknown s c = done
+
+-- ---- they are the definition
+
+handle-order : (u : Use) (s : State) (h : ℕ) (l : List Test) (x rest : Answer) → x ≡ firstOf l rest → withHandle u s h x ≡ firstOf (handleTests u s h ++ l) rest
+unfolding withHandle handleTests firstOf
+handle-order noHandle s h l x rest e = e
+handle-order taken s h l x rest e = rw e
+handle-order free s h l x rest e = rw e
+
+-- validate's modes
+mode-order : (n : ℕ) (i : Bool) → Mode n → answerOf (initJudged i (modeOf n)) ≡ ((eqb n 0 && not i) ⇒ Einval ⨾ (eqb n 4294967295 && i) ⇒ Eaddrinuse ⨾ done)
+unfolding _⇒_⨾_
+mode-order n i (inl e) = rw e (go i)
+  where
+    go : (i : Bool) → answerOf (initJudged i MustBeInit) ≡ cond (not i) (refused Einval) done
+    go true = refl
+    go false = refl
+mode-order n i (inr (inl e)) = rw e
+mode-order n i (inr (inr e)) = rw e (go i)
+  where
+    go : (i : Bool) → answerOf (initJudged i MustNotBeInit) ≡ cond i (refused Eaddrinuse) done
+    go true = refl
+    go false = refl
+
+validate-order : (x y i : Bool) (n : ℕ) → Mode n
+    → answerOf (cond x (cond y (initJudged i (modeOf n)) (Refused (numberOf Eperm))) (Refused (numberOf Ebadf)))
+    ≡ (not x ⇒ Ebadf ⨾ not y ⇒ Eperm ⨾ (eqb n 0 && not i) ⇒ Einval ⨾ (eqb n 4294967295 && i) ⇒ Eaddrinuse ⨾ done)
+unfolding _⇒_⨾_
+validate-order false y i n m = refl
+validate-order true false i n m = refl
+validate-order true true i n m = mode-order n i m
+
+add-order : (l : List MemPartition) (p : MemPartition)
+    → slotAnswer (added (withCount l) p) ≡ (not (addable l p) ⇒ Einval ⨾ not (hasFree l) ⇒ Enospc ⨾ record { code = 0; value = lowestFree l })
+unfolding added withCount changedAt _⇒_⨾_
+add-order l p = go (addable l p) (hasFree l) refl refl
+  where
+    go : (x y : Bool) → addable l p ≡ x → hasFree l ≡ y
+        → slotAnswer (added (withCount l) p) ≡ (not (addable l p) ⇒ Einval ⨾ not (hasFree l) ⇒ Enospc ⨾ record { code = 0; value = lowestFree l })
+    go true true e f = rw (e, f)
+    go true false e f = rw (e, f)
+    go false y e f = rw e
+
+remove-order : (l : List MemPartition) (start size : ℕ)
+    → slotAnswer (removed (withCount l) start size)
+    ≡ ((eqb size 0 || not (hasWindow l start size)) ⇒ Enoent ⨾ record { code = 0; value = lowestWindow l start size })
+unfolding removed withCount changedAt _⇒_⨾_
+remove-order l start size = go (eqb size 0) (hasWindow l start size) refl refl
+  where
+    go : (x y : Bool) → eqb size 0 ≡ x → hasWindow l start size ≡ y
+        → slotAnswer (removed (withCount l) start size)
+        ≡ ((eqb size 0 || not (hasWindow l start size)) ⇒ Enoent ⨾ record { code = 0; value = lowestWindow l start size })
+    go true y e f = rw e
+    go false true e f = rw (e, f)
+    go false false e f = rw (e, f)
+
+rule-order : (o : Op) (s : State) (c : Call) → Fields o c → rule o s c ≡ firstOf (ruleTests o s c) (ending o s c)
+unfolding rule supRule ruleTests ending firstOf Fields validated judged memoryRule _⇒_⨾_
+rule-order validate s c f =
+    validate-order (typeFits (c .b) (typeOf s (c .a))) (mayUse s (c .caller) (c .a)) (initialised (object s (c .a))) (c .c) (f .1 .0)
+rule-order grant s c f = refl
+rule-order release s c f = refl
+rule-order check s c f = refl
+rule-order exit s c f = refl
+rule-order (sup create) s c f = refl
+rule-order (sup delete) s c f = refl
+rule-order (sup revoke) s c f = refl
+rule-order (sup init) s c f = refl
+rule-order (sup uninit) s c f = refl
+rule-order (sup recycle) s c f = refl
+rule-order (sup publish) s c f = refl
+rule-order (sup newThread) s c f = refl
+rule-order (sup end) s c f = refl
+rule-order (sup inherit) s c f = refl
+rule-order (sup assign) s c f = refl
+rule-order (sup add) s c f = add-order (domain s (c .a)) (partitionOf c)
+rule-order (sup remove) s c f = remove-order (domain s (c .a)) (c .b) (c .c)
+rule-order unknown s c f = absurd f
+
+pub judge-order : (s : State) (c : Call) → judge s c ≡ firstOf (order s c) (ending (opOf (c .op)) s c)
+unfolding judge judgeOp firstOf order
+judge-order s c =
+    past _ _ _ _ (λ _.
+    past _ _ _ _ (λ _.
+    past _ _ _ _ (λ _.
+    past _ _ _ _ (λ _.
+    past _ _ _ _ (λ e.
+    handle-order (useOf (opOf (c .op))) s (c .a) (ruleTests (opOf (c .op)) s c) (rule (opOf (c .op)) s c) (ending (opOf (c .op)) s c)
+    (rule-order (opOf (c .op)) s c (fields-iff (opOf (c .op)) c .0 (not-false (wellFormed (opOf (c .op)) c) e))))))))
