@@ -34,3 +34,33 @@ module _ (ps : List MemPartition) (write : Bool) where
       let e : isCovered ps write from ≡ true = f from (omega arith) (omega arith) in
       let r : n ≤ coveredRun ps write (suc from) n = all-run (suc from) n (λ x l h. f x (omega arith) (omega arith)) in
       rw e (omega arith)
+
+-- the least address of the range that is not covered
+pub record Least (ps : List MemPartition) (write : Bool) (from len v : ℕ) : Type 0 where
+  pub start : from ≤ v
+  pub end : v < from + len
+  pub bare : isCovered ps write v ≡ false
+  pub before : (x : ℕ) → from ≤ x → x < v → isCovered ps write x ≡ true
+
+-- a run that ends early ends at the least address that is not covered
+module _ (ps : List MemPartition) (write : Bool) where
+  pub run-least : (from len : ℕ) → coveredRun ps write from len < len → Least ps write from len (from + coveredRun ps write from len)
+  unfolding coveredRun
+  run-least from zero h = absurd (omega arith)
+  run-least from (suc n) h = go (isCovered ps write from) refl h (run-least (suc from) n)
+    where
+      go : (b : Bool) → isCovered ps write from ≡ b → cond b (suc (coveredRun ps write (suc from) n)) 0 < suc n
+          → (coveredRun ps write (suc from) n < n → Least ps write (suc from) n (suc from + coveredRun ps write (suc from) n))
+          → Least ps write from (suc n) (from + cond b (suc (coveredRun ps write (suc from) n)) 0)
+      go false e k more =
+          let z : from + 0 ≡ from = omega arith in
+          rw z (record { start = omega arith; end = omega arith; bare = e; before = λ x l g. absurd (omega arith) })
+      go true e k more =
+          let z : from + suc (coveredRun ps write (suc from) n) ≡ suc from + coveredRun ps write (suc from) n = omega arith in
+          let r = more (omega arith) in
+          rw z (record { start = omega arith; end = omega arith; bare = r .bare; before = λ x l g. at r x l g (ℕ-discrete x from) })
+        where
+          at : Least ps write (suc from) n (suc from + coveredRun ps write (suc from) n) → (x : ℕ) → from ≤ x → x < suc from + coveredRun ps write (suc from) n
+              → Dec (x ≡ from) → isCovered ps write x ≡ true
+          at r x l g (yes q) = rw q e
+          at r x l g (no q) = r .before x (omega arith) g

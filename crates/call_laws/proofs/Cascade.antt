@@ -4,15 +4,18 @@ use Prim.Native.Nat.{ℕ, zero, suc, _<_}
 use native.Mathlib.Nat.{not-suc-le-zero, zero-lt-suc}
 use native.Mathlib.Omega.{arith}
 use mathlib.Core.Path.{_≡_, refl, sym, ap, _∙_}
-use mathlib.Core.Logic.{_≢_}
-use mathlib.Core.Bool.{Bool, true, false, cond, true≢false, false≢true}
+use mathlib.Core.Logic.{_↔_}
+use mathlib.Core.Bool.{Bool, true, false, true≢false, false≢true}
 use mathlib.Core.List.{List, [], _∷_, _++_}
-use lib.ListN.{length, getD}
+use lib.ListN.{getD}
 use Rattle.answer.specs.declared.Answer.{Answer}
 use Rattle.answer.specs.declared.Code.{Code}
-use Rattle.answer.specs.declared.Code.the-variants.{Ok, Einval, Eperm, Ebadf, Eaddrinuse, Enospc, Enoent, Short, Magic, Value, Noplan, Room, Differs}
-use Rattle.answer.specs.Answer.{numberOf}
-use Rattle.judging.specs.Judge.{done, refused, _⇒_⨾_}
+use Rattle.answer.specs.declared.Code.the-variants.{Ok}
+use Rattle.answer.specs.Answer.{numberOf, codeOf}
+use Rattle.answer.specs.declared.Named.{Named}
+use Rattle.answer.specs.declared.Named.the-variants.{Is}
+use Rattle.answer.proofs.Cases.{code-of-number}
+use Rattle.judging.specs.Judge.{refused, _⇒_⨾_}
 
 -- ---- one test
 
@@ -113,3 +116,52 @@ first-unique (x ∷ l) (suc i) (suc j) f g =
     ap suc
     (first-unique l i j (record { holds = f .holds; before = λ k h. f .before (suc k) (omega arith) })
     (record { holds = g .holds; before = λ k h. g .before (suc k) (omega arith) }))
+
+-- ---- codes
+
+-- no test refuses with OK
+unfoldable pub Refusals : List Test → Type 0
+Refusals [] = Unit {0}
+Refusals (x ∷ l) = (0 < numberOf (x .1)) × Refusals l
+
+pub refusals-append : (l m : List Test) → Refusals l → Refusals m → Refusals (l ++ m)
+unfolding Refusals
+refusals-append [] m f g = g
+refusals-append (x ∷ l) m f g = (f .0, refusals-append l m (f .1) g)
+
+refusal-at : (l : List Test) (i : ℕ) → Refusals l → testAt l i .0 ≡ true → 0 < numberOf (testAt l i .1)
+unfolding Refusals
+refusal-at [] i f e = absurd (false≢true e)
+refusal-at (x ∷ l) zero f e = f .0
+refusal-at (x ∷ l) (suc i) f e = refusal-at l i (f .1) e
+
+-- two names with one number are one
+same-name : (m n : Code) → numberOf m ≡ numberOf n → m ≡ n
+same-name m n e =
+    let p = code-of-number m in
+    let q = code-of-number n in
+    let r : codeOf (numberOf m) ≡ codeOf (numberOf n) = ap codeOf e in
+    cc
+
+-- the first test that holds refuses with n
+pub record By (l : List Test) (n : Code) : Type 0 where
+  pub test : ℕ
+  pub first : FirstAt l test
+  pub code : testAt l test .1 ≡ n
+
+module _ (l : List Test) (rest : Answer) (r : Refusals l) where
+  -- OK exactly when none holds, and what stands behind is OK
+  pub ok-exactly : (firstOf l rest .code ≡ 0) ↔ (None l × (rest .code ≡ 0))
+  ok-exactly = (go (verdict l), λ p. ap (λ a. a .code) (lets l rest (p .0)) ∙ p .1)
+    where
+      go : Verdict l → firstOf l rest .code ≡ 0 → None l × (rest .code ≡ 0)
+      go (by i f) e = absurd (omega (arith, ap (λ a. a .code) (refuses l rest i f), refusal-at l i r (f .holds)))
+      go (none f) e = (f, ap (λ a. a .code) (sym (lets l rest f)) ∙ e)
+
+  -- a refusal with n exactly when the first test that holds has n, where what stands behind is OK
+  pub code-exactly : (n : Code) → 0 < numberOf n → rest .code ≡ 0 → (firstOf l rest .code ≡ numberOf n) ↔ By l n
+  code-exactly n z k = (go (verdict l), λ b. ap (λ a. a .code) (refuses l rest (b .test) (b .first)) ∙ ap numberOf (b .code))
+    where
+      go : Verdict l → firstOf l rest .code ≡ numberOf n → By l n
+      go (by i f) e = record { test = i; first = f; code = same-name (testAt l i .1) n (ap (λ a. a .code) (sym (refuses l rest i f)) ∙ e) }
+      go (none f) e = absurd (omega (arith, ap (λ a. a .code) (lets l rest f)))

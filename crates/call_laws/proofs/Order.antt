@@ -23,7 +23,7 @@ use Rattle.mem_check.specs.Memory.{coveredRun, reached, memoryRule}
 use Rattle.judging.specs.declared.Call.{Call}
 use Rattle.judging.specs.Calls.{Sup, create, delete, revoke, init, uninit, recycle, publish, thread as newThread, end, inherit, assign, add, remove, Op, validate, grant, release, check, exit, sup, unknown, opOf}
 use Rattle.judging.specs.Judge.{done, refused, _⇒_⨾_, live, supervisor, typeOf, mayUse, serves, modeOf, wellFormed, partitionOf, slotAnswer, Use, noHandle, taken, free, useOf, withHandle, rule, supRule, isUnknown, isPrivileged, judgeOp, judge}
-use Rattle.call_laws.proofs.Cascade.{stop, pass, past, Test, firstOf, testAt, FirstAt, None, Verdict, by, none, verdict, refuses, lets}
+use Rattle.call_laws.proofs.Cascade.{stop, pass, past, Test, firstOf, testAt, FirstAt, None, Verdict, by, none, verdict, refuses, lets, Refusals, refusals-append, By, ok-exactly, code-exactly}
 use Rattle.call_laws.proofs.Conditions.{Mode, mode-iff, Fields, fields-iff}
 
 -- ---- the tests
@@ -189,3 +189,80 @@ judge-order s c =
     past _ _ _ _ (λ e.
     handle-order (useOf (opOf (c .op))) s (c .a) (ruleTests (opOf (c .op)) s c) (rule (opOf (c .op)) s c) (ending (opOf (c .op)) s c)
     (rule-order (opOf (c .op)) s c (fields-iff (opOf (c .op)) c .0 (not-false (wellFormed (opOf (c .op)) c) e))))))))
+
+-- ---- the laws of the order
+
+handle-codes : (u : Use) (s : State) (h : ℕ) → Refusals (handleTests u s h)
+unfolding handleTests Refusals
+handle-codes noHandle s h = tt
+handle-codes taken s h = (lit< tt, (lit< tt, tt))
+handle-codes free s h = (lit< tt, (lit< tt, tt))
+
+rule-codes : (o : Op) (s : State) (c : Call) → Refusals (ruleTests o s c)
+unfolding ruleTests Refusals
+rule-codes validate s c = (lit< tt, (lit< tt, (lit< tt, (lit< tt, tt))))
+rule-codes grant s c = (lit< tt, (lit< tt, (lit< tt, tt)))
+rule-codes release s c = (lit< tt, tt)
+rule-codes check s c = (lit< tt, tt)
+rule-codes exit s c = tt
+rule-codes (sup create) s c = tt
+rule-codes (sup delete) s c = (lit< tt, tt)
+rule-codes (sup revoke) s c = (lit< tt, tt)
+rule-codes (sup init) s c = tt
+rule-codes (sup uninit) s c = tt
+rule-codes (sup recycle) s c = tt
+rule-codes (sup publish) s c = tt
+rule-codes (sup newThread) s c = (lit< tt, (lit< tt, (lit< tt, tt)))
+rule-codes (sup end) s c = (lit< tt, tt)
+rule-codes (sup inherit) s c = (lit< tt, (lit< tt, tt))
+rule-codes (sup assign) s c = (lit< tt, tt)
+rule-codes (sup add) s c = (lit< tt, (lit< tt, tt))
+rule-codes (sup remove) s c = (lit< tt, tt)
+rule-codes unknown s c = (lit< tt, tt)
+
+order-codes : (s : State) (c : Call) → Refusals (order s c)
+unfolding order Refusals
+order-codes s c =
+    let o = opOf (c .op) in
+    (lit< tt, (lit< tt, (lit< tt, (lit< tt, (lit< tt, refusals-append (handleTests (useOf o) s (c .a)) (ruleTests o s c) (handle-codes (useOf o) s (c .a)) (rule-codes o s c))))))
+
+-- the answer where none refuses is OK, but for the memory check's walk
+ends-ok : (o : Op) (s : State) (c : Call) → o ≢ check → ending o s c .code ≡ 0
+unfolding ending
+ends-ok validate s c n = refl
+ends-ok grant s c n = refl
+ends-ok release s c n = refl
+ends-ok check s c n = absurd (n refl)
+ends-ok exit s c n = refl
+ends-ok (sup create) s c n = refl
+ends-ok (sup delete) s c n = refl
+ends-ok (sup revoke) s c n = refl
+ends-ok (sup init) s c n = refl
+ends-ok (sup uninit) s c n = refl
+ends-ok (sup recycle) s c n = refl
+ends-ok (sup publish) s c n = refl
+ends-ok (sup newThread) s c n = refl
+ends-ok (sup end) s c n = refl
+ends-ok (sup inherit) s c n = refl
+ends-ok (sup assign) s c n = refl
+ends-ok (sup add) s c n = refl
+ends-ok (sup remove) s c n = refl
+ends-ok unknown s c n = refl
+
+module _ (s : State) (c : Call) where
+  -- the first test that holds is the answer, with value 0
+  pub refused-when : (i : ℕ) → FirstAt (order s c) i → judge s c ≡ refused (testAt (order s c) i .1)
+  refused-when i f = judge-order s c ∙ refuses (order s c) (ending (opOf (c .op)) s c) i f
+
+  -- none holds: the ending is the answer
+  pub ended-when : None (order s c) → judge s c ≡ ending (opOf (c .op)) s c
+  ended-when f = judge-order s c ∙ lets (order s c) (ending (opOf (c .op)) s c) f
+
+  -- OK exactly when none holds and the walk, if it comes to one, reaches its end
+  pub ok-none : (judge s c .code ≡ 0) ↔ (None (order s c) × (ending (opOf (c .op)) s c .code ≡ 0))
+  ok-none = rw (judge-order s c) (ok-exactly (order s c) (ending (opOf (c .op)) s c) (order-codes s c))
+
+  -- each refusal exactly when it is the first of the order that holds
+  pub refused-exactly : opOf (c .op) ≢ check → (n : Code) → 0 < numberOf n → (judge s c .code ≡ numberOf n) ↔ By (order s c) n
+  refused-exactly o n z =
+      rw (judge-order s c) (code-exactly (order s c) (ending (opOf (c .op)) s c) (order-codes s c) n z (ends-ok (opOf (c .op)) s c o))
