@@ -136,7 +136,7 @@ refusal-at (x ∷ l) zero f e = f .0
 refusal-at (x ∷ l) (suc i) f e = refusal-at l i (f .1) e
 
 -- two names with one number are one
-same-name : (m n : Code) → numberOf m ≡ numberOf n → m ≡ n
+pub same-name : (m n : Code) → numberOf m ≡ numberOf n → m ≡ n
 same-name m n e =
     let p = code-of-number m in
     let q = code-of-number n in

@@ -1,13 +1,14 @@
 -- The order of refusals as a list of tests, for every operation: a call is refused with a code exactly when the first test of the list that holds has
 -- it. The one answer that is no test's is the memory check's EPERM with an address.
-use Prim.Native.Nat.{ℕ, _+_, _<_}
+use Prim.Native.Nat.{ℕ, _+_, _≤_, _<_}
+use native.Mathlib.Decide.{decLt}
 use native.Mathlib.Omega.{arith}
 use mathlib.Core.Path.{_≡_, refl, sym, ap, _∙_, subst}
 use mathlib.Core.Logic.{_↔_, _⊎_, inl, inr, _≢_}
 use mathlib.Core.Bool.{Bool, true, false, cond, not, _&&_, _||_, true≢false, false≢true}
 use mathlib.Core.List.{List, [], _∷_, _++_}
 use lib.Dec.{eqb, ltb, leb, lit<}
-use borrow.Author.Tests.{not-false}
+use borrow.Author.Tests.{not-false, lt-leb, leb-false}
 use Rattle.answer.specs.declared.Answer.{Answer}
 use Rattle.answer.specs.declared.Code.{Code}
 use Rattle.answer.specs.declared.Code.the-variants.{Ok, Einval, Eperm, Ebadf, Eaddrinuse, Enospc, Enoent}
@@ -19,11 +20,12 @@ use Rattle.userspace.specs.declared.Validated.the-variants.{Refused}
 use Rattle.userspace.specs.Userspace.{THREADS, typeFits, initialised, initJudged, judged, validated, answerOf}
 use Rattle.tables.specs.Table.{HANDLES}
 use Rattle.tables.specs.State.{State, object, thread, domain}
-use Rattle.mem_check.specs.Memory.{coveredRun, reached, memoryRule}
+use Rattle.mem_check.specs.Memory.{isCovered, coveredRun, reached, memoryRule}
 use Rattle.judging.specs.declared.Call.{Call}
 use Rattle.judging.specs.Calls.{Sup, create, delete, revoke, init, uninit, recycle, publish, thread as newThread, end, inherit, assign, add, remove, Op, validate, grant, release, check, exit, sup, unknown, opOf}
 use Rattle.judging.specs.Judge.{done, refused, _⇒_⨾_, live, supervisor, typeOf, mayUse, serves, modeOf, wellFormed, partitionOf, slotAnswer, Use, noHandle, taken, free, useOf, withHandle, rule, supRule, isUnknown, isPrivileged, judgeOp, judge}
-use Rattle.call_laws.proofs.Cascade.{stop, pass, past, Test, firstOf, testAt, FirstAt, None, Verdict, by, none, verdict, refuses, lets, Refusals, refusals-append, By, ok-exactly, code-exactly}
+use Rattle.call_laws.proofs.Cascade.{stop, pass, past, Test, firstOf, testAt, FirstAt, None, Verdict, by, none, verdict, refuses, lets, Refusals, refusals-append, By, same-name, ok-exactly, code-exactly}
+use Rattle.call_laws.proofs.Bytes.{Least, run-all, run-least}
 use Rattle.call_laws.proofs.Conditions.{Mode, mode-iff, Fields, fields-iff}
 
 -- ---- the tests
@@ -266,3 +268,107 @@ module _ (s : State) (c : Call) where
   pub refused-exactly : opOf (c .op) ≢ check → (n : Code) → 0 < numberOf n → (judge s c .code ≡ numberOf n) ↔ By (order s c) n
   refused-exactly o n z =
       rw (judge-order s c) (code-exactly (order s c) (ending (opOf (c .op)) s c) (order-codes s c) n z (ends-ok (opOf (c .op)) s c o))
+
+-- ---- the memory check's walk
+
+abbrev slotsOf : State → Call → List MemPartition
+slotsOf s c = domain s (thread s (c .caller) .domain)
+
+-- no test holds, the caller is no supervisor, and the value is the least address that is not covered with the right
+pub record Walked (s : State) (c : Call) : Type 0 where
+  pub none : None (order s c)
+  pub user : supervisor s (c .caller) ≡ false
+  pub least : Least (slotsOf s c) (eqb (c .d) 1) (c .b) (c .c) (judge s c .value)
+
+module _ (s : State) (c : Call) (o : opOf (c .op) ≡ check) where
+  abbrev run : ℕ
+  run = coveredRun (slotsOf s c) (eqb (c .d) 1) (c .b) (c .c)
+
+  walk-is : None (order s c) → judge s c ≡ cond (supervisor s (c .caller)) done (reached (c .b) (c .c) run)
+  unfolding ending
+  walk-is f = ended-when s c f ∙ ap (λ x. ending x s c) o
+
+  walk-short : None (order s c) → supervisor s (c .caller) ≡ false → run < c .c → judge s c ≡ record { code = numberOf Eperm; value = c .b + run }
+  unfolding reached
+  walk-short f u h = walk-is f ∙ rw (u, lt-leb (c .c) run h)
+
+  walk-ok : (x y : Bool) → None (order s c) → supervisor s (c .caller) ≡ x → leb (c .c) run ≡ y → judge s c .code ≡ numberOf Eperm → Walked s c
+  unfolding reached
+  walk-ok true y f u e k = let d : judge s c ≡ done = walk-is f ∙ rw u in absurd (omega (arith, ap (λ a. a .code) d))
+  walk-ok false true f u e k = let d : judge s c ≡ done = walk-is f ∙ rw (u, e) in absurd (omega (arith, ap (λ a. a .code) d))
+  walk-ok false false f u e k =
+      let h = leb-false (c .c) run e in
+      record { none = f; user = u; least = rw (ap (λ a. a .value) (walk-short f u h)) (run-least (slotsOf s c) (eqb (c .d) 1) (c .b) (c .c) h) }
+
+  -- EPERM exactly when a test refuses with it, value 0, or the walk finds a byte that is not covered
+  pub check-eperm-means : judge s c .code ≡ numberOf Eperm → By (order s c) Eperm ⊎ Walked s c
+  check-eperm-means e = go (verdict (order s c))
+    where
+      go : Verdict (order s c) → By (order s c) Eperm ⊎ Walked s c
+      go (by i f) = inl (record { test = i; first = f; code = same-name (testAt (order s c) i .1) Eperm (ap (λ a. a .code) (sym (refused-when s c i f)) ∙ e) })
+      go (none f) = inr (walk-ok (supervisor s (c .caller)) (leb (c .c) run) f refl refl e)
+
+  -- the walk's EPERM: some byte of the range is not covered
+  pub check-eperm-when : None (order s c) → supervisor s (c .caller) ≡ false → (x : ℕ) → c .b ≤ x → x < c .b + c .c
+      → isCovered (slotsOf s c) (eqb (c .d) 1) x ≡ false → judge s c .code ≡ numberOf Eperm
+  check-eperm-when f u x l h e = go (decLt run (c .c))
+    where
+      go : Dec (run < c .c) → judge s c .code ≡ numberOf Eperm
+      go (yes g) = ap (λ a. a .code) (walk-short f u g)
+      go (no g) = absurd (true≢false (sym (run-all (slotsOf s c) (eqb (c .d) 1) (c .b) (c .c) (omega arith) x l h) ∙ e))
+
+-- ---- values
+
+walk-value : (x y : Bool) (v : ℕ) → cond {A = Answer} x done (cond y done (record { code = 2; value = v })) .code ≡ 0
+    → cond {A = Answer} x done (cond y done (record { code = 2; value = v })) .value ≡ 0
+walk-value true y v e = refl
+walk-value false true v e = refl
+walk-value false false v e = absurd (omega arith)
+
+-- OK returns 0, but for add and remove
+ending-value : (o : Op) (s : State) (c : Call) → o ≢ sup add → o ≢ sup remove → ending o s c .code ≡ 0 → ending o s c .value ≡ 0
+unfolding ending reached
+ending-value validate s c a r e = refl
+ending-value grant s c a r e = refl
+ending-value release s c a r e = refl
+ending-value check s c a r e =
+    walk-value (supervisor s (c .caller)) (leb (c .c) (coveredRun (slotsOf s c) (eqb (c .d) 1) (c .b) (c .c))) (c .b + coveredRun (slotsOf s c) (eqb (c .d) 1) (c .b) (c .c)) e
+ending-value exit s c a r e = refl
+ending-value (sup create) s c a r e = refl
+ending-value (sup delete) s c a r e = refl
+ending-value (sup revoke) s c a r e = refl
+ending-value (sup init) s c a r e = refl
+ending-value (sup uninit) s c a r e = refl
+ending-value (sup recycle) s c a r e = refl
+ending-value (sup publish) s c a r e = refl
+ending-value (sup newThread) s c a r e = refl
+ending-value (sup end) s c a r e = refl
+ending-value (sup inherit) s c a r e = refl
+ending-value (sup assign) s c a r e = refl
+ending-value (sup add) s c a r e = absurd (a refl)
+ending-value (sup remove) s c a r e = absurd (r refl)
+ending-value unknown s c a r e = refl
+
+module _ (s : State) (c : Call) (e : judge s c .code ≡ 0) where
+  ends : judge s c ≡ ending (opOf (c .op)) s c
+  ends = ended-when s c (ok-none s c .0 e .0)
+
+  pub ok-value : opOf (c .op) ≢ sup add → opOf (c .op) ≢ sup remove → judge s c .value ≡ 0
+  ok-value a r = ap (λ x. x .value) ends ∙ ending-value (opOf (c .op)) s c a r (ok-none s c .0 e .1)
+
+  -- add returns the lowest free slot, remove the lowest match
+  pub add-value : opOf (c .op) ≡ sup add → judge s c .value ≡ lowestFree (domain s (c .a))
+  unfolding ending
+  add-value o = ap (λ x. x .value) (ends ∙ ap (λ x. ending x s c) o)
+
+  pub remove-value : opOf (c .op) ≡ sup remove → judge s c .value ≡ lowestWindow (domain s (c .a)) (c .b) (c .c)
+  unfolding ending
+  remove-value o = ap (λ x. x .value) (ends ∙ ap (λ x. ending x s c) o)
+
+-- a refusal returns 0, but for the memory check's walk
+pub refused-value : (s : State) (c : Call) → judge s c .code ≢ 0 → opOf (c .op) ≢ check → judge s c .value ≡ 0
+refused-value s c n o = go (verdict (order s c))
+  where
+    go : Verdict (order s c) → judge s c .value ≡ 0
+    go (by i f) = ap (λ a. a .value) (refused-when s c i f)
+    go (none f) = absurd (n (ap (λ a. a .code) (ended-when s c f) ∙ ends-ok (opOf (c .op)) s c o))
