@@ -206,7 +206,7 @@ unserved s n h e t l q = go (decLt t THREADS)
     go (yes b) = true≢false (sym (rw (l, eq-eqb (threadIn (s .threads) t .handle) h q)) ∙ any-miss (servesAt s h) THREADS t e b)
     go (no b) = false≢true (sym (ap isLive (List·getD-eq-default (s .threads) nobody {n = t} (rw n (omega arith)))) ∙ l)
 
-inherited-none : (p c : ℕ) → inherited p c noObject ≡ noObject
+pub inherited-none : (p c : ℕ) → inherited p c noObject ≡ noObject
 unfolding inherited holds
 inherited-none p c = go (ltb p THREADS) (isSet 0 p) (is-zero p)
   where

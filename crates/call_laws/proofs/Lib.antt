@@ -9,3 +9,4 @@ pub mod Bytes
 pub mod Conditions
 pub mod Operations
 pub mod Order
+pub mod Changes
