@@ -4,14 +4,15 @@ use Prim.Native.Nat.{ℕ, _+_, _≤_, _<_}
 use native.Mathlib.Decide.{decLt}
 use native.Mathlib.Omega.{arith}
 use mathlib.Core.Path.{_≡_, refl, sym, ap, _∙_, subst}
-use mathlib.Core.Logic.{_↔_, _⊎_, inl, inr, _≢_}
+use mathlib.Core.Logic.{_↔_, _⊎_, inl, inr, ⊎-elim, _≢_}
 use mathlib.Core.Bool.{Bool, true, false, cond, not, _&&_, _||_, true≢false, false≢true}
 use mathlib.Core.List.{List, [], _∷_, _++_}
 use lib.Dec.{eqb, ltb, leb, lit<}
-use borrow.Author.Tests.{not-false, lt-leb, leb-false}
+use lib.ListN.{length}
+use borrow.Author.Tests.{not-false, lt-ltb, le-ltb, lt-leb, leb-false}
 use Rattle.answer.specs.declared.Answer.{Answer}
 use Rattle.answer.specs.declared.Code.{Code}
-use Rattle.answer.specs.declared.Code.the-variants.{Ok, Einval, Eperm, Ebadf, Eaddrinuse, Enospc, Enoent}
+use Rattle.answer.specs.declared.Code.the-variants.{Ok, Einval, Eperm, Ebadf, Eaddrinuse, Enospc, Enoent, Short}
 use Rattle.answer.specs.Answer.{numberOf}
 use Rattle.mem_domain.specs.declared.MemPartition.{MemPartition}
 use Rattle.mem_domain.specs.Domain.{addable, hasFree, hasWindow, lowestFree, lowestWindow, withCount, changedAt, added, removed}
@@ -22,8 +23,9 @@ use Rattle.tables.specs.Table.{HANDLES}
 use Rattle.tables.specs.State.{State, object, thread, domain}
 use Rattle.mem_check.specs.Memory.{isCovered, coveredRun, reached, memoryRule}
 use Rattle.judging.specs.declared.Call.{Call}
-use Rattle.judging.specs.Calls.{Sup, create, delete, revoke, init, uninit, recycle, publish, thread as newThread, end, inherit, assign, add, remove, Op, validate, grant, release, check, exit, sup, unknown, opOf}
-use Rattle.judging.specs.Judge.{done, refused, _⇒_⨾_, live, supervisor, typeOf, mayUse, serves, modeOf, wellFormed, partitionOf, slotAnswer, Use, noHandle, taken, free, useOf, withHandle, rule, supRule, isUnknown, isPrivileged, judgeOp, judge}
+use Rattle.judging.specs.Calls.{Sup, create, delete, revoke, init, uninit, recycle, publish, thread as newThread, end, inherit, assign, add, remove, Op, validate, grant, release, check, exit, sup, unknown, opOf, callOf}
+use Rattle.judging.specs.Judge.{done, refused, _⇒_⨾_, live, supervisor, typeOf, mayUse, serves, modeOf, wellFormed, partitionOf, slotAnswer, Use, noHandle, taken, free, useOf, withHandle, rule, supRule, isUnknown, isPrivileged, judgeOp, judge, heard}
+use Rattle.judging.specs.Change.{change, after, left}
 use Rattle.call_laws.proofs.Cascade.{stop, pass, past, Test, firstOf, testAt, FirstAt, None, Verdict, by, none, verdict, refuses, lets, Refusals, refusals-append, By, same-name, ok-exactly, code-exactly}
 use Rattle.call_laws.proofs.Bytes.{Least, run-all, run-least}
 use Rattle.call_laws.proofs.Conditions.{Mode, mode-iff, Fields, fields-iff}
@@ -271,7 +273,8 @@ module _ (s : State) (c : Call) where
 
 -- ---- the memory check's walk
 
-abbrev slotsOf : State → Call → List MemPartition
+-- the slots of the caller's domain; with domain 255 none
+abbrev pub slotsOf : State → Call → List MemPartition
 slotsOf s c = domain s (thread s (c .caller) .domain)
 
 -- no test holds, the caller is no supervisor, and the value is the least address that is not covered with the right
@@ -292,21 +295,16 @@ module _ (s : State) (c : Call) (o : opOf (c .op) ≡ check) where
   unfolding reached
   walk-short f u h = walk-is f ∙ rw (u, lt-leb (c .c) run h)
 
-  walk-ok : (x y : Bool) → None (order s c) → supervisor s (c .caller) ≡ x → leb (c .c) run ≡ y → judge s c .code ≡ numberOf Eperm → Walked s c
+  walk-ends :
+      (x y : Bool) (n : Code) → 0 < numberOf n → None (order s c) → supervisor s (c .caller) ≡ x → leb (c .c) run ≡ y → judge s c .code ≡ numberOf n →
+      (n ≡ Eperm) × Walked s c
   unfolding reached
-  walk-ok true y f u e k = let d : judge s c ≡ done = walk-is f ∙ rw u in absurd (omega (arith, ap (λ a. a .code) d))
-  walk-ok false true f u e k = let d : judge s c ≡ done = walk-is f ∙ rw (u, e) in absurd (omega (arith, ap (λ a. a .code) d))
-  walk-ok false false f u e k =
+  walk-ends true y n z f u e k = let d : judge s c ≡ done = walk-is f ∙ rw u in absurd (omega (arith, ap (λ a. a .code) d))
+  walk-ends false true n z f u e k = let d : judge s c ≡ done = walk-is f ∙ rw (u, e) in absurd (omega (arith, ap (λ a. a .code) d))
+  walk-ends false false n z f u e k =
       let h = leb-false (c .c) run e in
-      record { none = f; user = u; least = rw (ap (λ a. a .value) (walk-short f u h)) (run-least (slotsOf s c) (eqb (c .d) 1) (c .b) (c .c) h) }
-
-  -- EPERM exactly when a test refuses with it, value 0, or the walk finds a byte that is not covered
-  pub check-eperm-means : judge s c .code ≡ numberOf Eperm → By (order s c) Eperm ⊎ Walked s c
-  check-eperm-means e = go (verdict (order s c))
-    where
-      go : Verdict (order s c) → By (order s c) Eperm ⊎ Walked s c
-      go (by i f) = inl (record { test = i; first = f; code = same-name (testAt (order s c) i .1) Eperm (ap (λ a. a .code) (sym (refused-when s c i f)) ∙ e) })
-      go (none f) = inr (walk-ok (supervisor s (c .caller)) (leb (c .c) run) f refl refl e)
+      let d = walk-short f u h in
+      (same-name n Eperm (sym k ∙ ap (λ a. a .code) d), record { none = f; user = u; least = rw (ap (λ a. a .value) d) (run-least (slotsOf s c) (eqb (c .d) 1) (c .b) (c .c) h) })
 
   -- the walk's EPERM: some byte of the range is not covered
   pub check-eperm-when : None (order s c) → supervisor s (c .caller) ≡ false → (x : ℕ) → c .b ≤ x → x < c .b + c .c
@@ -316,6 +314,22 @@ module _ (s : State) (c : Call) (o : opOf (c .op) ≡ check) where
       go : Dec (run < c .c) → judge s c .code ≡ numberOf Eperm
       go (yes g) = ap (λ a. a .code) (walk-short f u g)
       go (no g) = absurd (true≢false (sym (run-all (slotsOf s c) (eqb (c .d) 1) (c .b) (c .c) (omega arith) x l h) ∙ e))
+
+  -- each refusal exactly when it is the first of the order that holds, value 0, or it is the walk's EPERM
+  pub check-exactly : (n : Code) → 0 < numberOf n → (judge s c .code ≡ numberOf n) ↔ (By (order s c) n ⊎ ((n ≡ Eperm) × Walked s c))
+  check-exactly n z = (there (verdict (order s c)), ⊎-elim back walked)
+    where
+      there : Verdict (order s c) → judge s c .code ≡ numberOf n → By (order s c) n ⊎ ((n ≡ Eperm) × Walked s c)
+      there (by i f) e = inl (record { test = i; first = f; code = same-name (testAt (order s c) i .1) n (ap (λ a. a .code) (sym (refused-when s c i f)) ∙ e) })
+      there (none f) e = inr (walk-ends (supervisor s (c .caller)) (leb (c .c) run) n z f refl refl e)
+
+      back : By (order s c) n → judge s c .code ≡ numberOf n
+      back b = ap (λ a. a .code) (refused-when s c (b .test) (b .first)) ∙ ap numberOf (b .code)
+
+      walked : (n ≡ Eperm) × Walked s c → judge s c .code ≡ numberOf n
+      walked p =
+          let w = p .1 in
+          check-eperm-when (w .none) (w .user) (judge s c .value) (w .least .start) (w .least .end) (w .least .bare) ∙ ap numberOf (sym (p .0))
 
 -- ---- values
 
@@ -372,3 +386,32 @@ refused-value s c n o = go (verdict (order s c))
     go : Verdict (order s c) → judge s c .value ≡ 0
     go (by i f) = ap (λ a. a .value) (refused-when s c i f)
     go (none f) = absurd (n (ap (λ a. a .code) (ended-when s c f) ∙ ends-ok (opOf (c .op)) s c o))
+
+-- ---- bytes as they come
+
+module _ (s : State) (bs : List ℕ) where
+  -- fewer than sixteen SHORT, more EINVAL, sixteen the call that they are
+  pub heard-short : length bs < 16 → heard s bs ≡ refused Short
+  unfolding heard
+  heard-short h = stop _ _ _ (lt-ltb (length bs) 16 h)
+
+  pub heard-long : 16 < length bs → heard s bs ≡ refused Einval
+  unfolding heard
+  heard-long h = pass _ _ _ (le-ltb (length bs) 16 (omega arith)) ∙ stop _ _ _ (lt-ltb 16 (length bs) h)
+
+  pub heard-whole : length bs ≡ 16 → heard s bs ≡ judge s (callOf bs)
+  unfolding heard
+  heard-whole h = pass _ _ _ (le-ltb (length bs) 16 (omega arith)) ∙ pass _ _ _ (le-ltb 16 (length bs) (omega arith))
+
+  -- other lengths change nothing; sixteen bytes change what the call does
+  pub left-other : length bs ≢ 16 → left s bs ≡ s
+  unfolding left
+  left-other n = go (decLt (length bs) 16)
+    where
+      go : Dec (length bs < 16) → cond (eqb (heard s bs .code) 0) (change (opOf (callOf bs .op)) (callOf bs) s) s ≡ s
+      go (yes h) = rw (heard-short h)
+      go (no h) = rw (heard-long (omega arith))
+
+  pub left-whole : length bs ≡ 16 → left s bs ≡ after s (callOf bs)
+  unfolding left after
+  left-whole h = rw (heard-whole h)
