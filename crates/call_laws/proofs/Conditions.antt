@@ -204,7 +204,7 @@ unserved-iff s h = (there, λ f. any-none (servesAt s h) THREADS (λ t b. back t
     back t true false p q f = refl
     back t true true p q f = absurd (f p (eqb-true (thread s t .handle) h q))
 
-fits-iff : (m n : ℕ) → (typeFits m n ≡ true) ↔ FitsType m n
+pub fits-iff : (m n : ℕ) → (typeFits m n ≡ true) ↔ FitsType m n
 unfolding typeFits
 fits-iff m n = or-iff _ _ (eq-iff m 0) (eq-iff m n)
 
