@@ -4,11 +4,11 @@ use Prim.Native.Nat.{ℕ, _+_, _≤_, _<_}
 use native.Mathlib.Decide.{decLt}
 use native.Mathlib.Omega.{arith}
 use mathlib.Core.Path.{_≡_, refl, sym, ap, _∙_}
-use mathlib.Core.Logic.{_≢_, _⊎_, inl, inr}
-use mathlib.Core.Bool.{Bool, true, false, not, _&&_, _||_, false≢true}
+use mathlib.Core.Logic.{_≢_, inl, inr}
+use mathlib.Core.Bool.{Bool, true, false, not, false≢true}
 use mathlib.Core.List.{List}
-use lib.Dec.{eqb, ltb, leb, lit<}
-use borrow.Author.Tests.{lt-ltb, lt-leb, eqb-true, eq-eqb, ne-eqb}
+use lib.Dec.{eqb, lit<}
+use borrow.Author.Tests.{lt-leb, eqb-true, ne-eqb}
 use Rattle.answer.specs.declared.Answer.{Answer}
 use Rattle.answer.specs.declared.Code.the-variants.{Einval, Eperm}
 use Rattle.mem_domain.specs.declared.MemPartition.{MemPartition}

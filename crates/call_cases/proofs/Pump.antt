@@ -3,13 +3,13 @@
 use Prim.Native.Nat.{ℕ}
 use native.Mathlib.Omega.{arith}
 use mathlib.Core.Path.{_≡_, refl, sym}
-use mathlib.Core.Logic.{_⊎_, inl, inr}
-use mathlib.Core.Bool.{true, false}
+use mathlib.Core.Logic.{inl, inr}
+use mathlib.Core.Bool.{true}
 use mathlib.Core.List.{List, [], _∷_}
-use lib.Dec.{eqb, lit<}
+use lib.Dec.{lit<}
 use lib.ListN.{replicate}
 use lib.Seq.{sets}
-use Rattle.answer.specs.declared.Code.the-variants.{Einval, Eperm, Ebadf}
+use Rattle.answer.specs.declared.Code.the-variants.{Einval, Eperm}
 use Rattle.domain_rules.specs.Scan.{allTo}
 use Rattle.domain_rules.specs.Sound.{slotsSound, slotSound, slotOk, apartOf, attrOk}
 use Rattle.mem_domain.specs.Scan.{firstFrom}

@@ -12,8 +12,6 @@ use Rattle.answer.specs.declared.Answer.{Answer}
 use Rattle.answer.specs.declared.Code.{Code}
 use Rattle.answer.specs.declared.Code.the-variants.{Ok}
 use Rattle.answer.specs.Answer.{numberOf, codeOf}
-use Rattle.answer.specs.declared.Named.{Named}
-use Rattle.answer.specs.declared.Named.the-variants.{Is}
 use Rattle.answer.proofs.Cases.{code-of-number}
 use Rattle.judging.specs.Judge.{refused, _⇒_⨾_}
 

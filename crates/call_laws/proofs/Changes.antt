@@ -1,13 +1,12 @@
 -- On OK each operation changes exactly what is named here, and all else stays: every other object, thread and domain, every field not named. A refusal
 -- changes nothing.
-use Prim.Native.Nat.{ℕ, _%_, _≤_, _<_}
+use Prim.Native.Nat.{ℕ, _%_, _<_}
 use native.Mathlib.Nat.{mod-eq-of-lt}
 use native.Mathlib.Omega.{arith}
 use mathlib.Core.Path.{_≡_, refl, sym, ap, _∙_, subst}
 use mathlib.Core.Logic.{_≢_}
-use mathlib.Core.Bool.{Bool, true, false, cond, _&&_, _||_, or-true, or-false}
+use mathlib.Core.Bool.{Bool, true, false, cond, _||_, or-true, or-false}
 use mathlib.Core.List.{List, []}
-use lib.Dec.{eqb, ltb, lit<}
 use lib.ListN.{length, getD, set}
 use borrow.Author.Tests.{ne-eqb, lt-ltb}
 use Rattle.mem_domain.specs.declared.MemPartition.{MemPartition}
@@ -24,9 +23,9 @@ use Rattle.tables.specs.Table.{HANDLES, DOMAINS, noObject, nobody}
 use Rattle.tables.specs.State.{State, object, thread, domain}
 use Rattle.rules.specs.Rules.{Keeps}
 use Rattle.judging.specs.declared.Call.{Call}
-use Rattle.judging.specs.Calls.{Sup, create, delete, revoke, init, uninit, recycle, publish, thread as newThread, end, inherit, assign, add, remove, Op, validate, grant, release, check, exit, sup, unknown, opOf}
+use Rattle.judging.specs.Calls.{create, delete, revoke, init, uninit, recycle, publish, thread as newThread, end, inherit, assign, add, remove, Op, validate, grant, release, check, exit, sup, opOf}
 use Rattle.judging.specs.Judge.{partitionOf, rule, supRule, judge}
-use Rattle.judging.specs.Change.{Change, none, one, each, enact, inherited, objectChange, born, moved, threadChange, domainChange, change, after}
+use Rattle.judging.specs.Change.{none, one, each, enact, inherited, objectChange, born, moved, threadChange, domainChange, change, after}
 use Rattle.call_laws.proofs.Enact.{one-same, one-other, each-at}
 use Rattle.call_laws.proofs.Passed.{PassedAs, in-range}
 use Rattle.call_laws.proofs.Parts.{revoked-none}

@@ -1,16 +1,14 @@
 -- What each operation asks, in plain statements, and that its tests say just that: the fields, the handle, the rule.
-use Prim.Native.Nat.{ℕ, zero, suc, _+_, _≤_, _<_}
-use native.Mathlib.Decide.{decLt}
-use native.Mathlib.Nat.{le-refl}
+use Prim.Native.Nat.{ℕ, _+_, _≤_, _<_}
 use native.Mathlib.Omega.{arith}
 use mathlib.Core.Path.{_≡_, refl, sym, ap, _∙_}
-use mathlib.Core.Logic.{_↔_, _⊎_, inl, inr, ⊎-elim, _≢_}
+use mathlib.Core.Logic.{_↔_, _⊎_, inl, inr, _≢_}
 use mathlib.Core.Bool.{Bool, true, false, cond, not, _&&_, _||_, true≢false, false≢true}
 use mathlib.Core.List.{List}
 use lib.Dec.{eqb, ltb, leb, lit<}
-use borrow.Author.Tests.{ltb-true, leb-true, leb-false, le-leb, eqb-true, eq-eqb, ne-eqb, not-true, not-false}
+use borrow.Author.Tests.{ltb-true, leb-true, le-leb, eqb-true, eq-eqb, not-true}
 use Rattle.answer.specs.declared.Answer.{Answer}
-use Rattle.answer.specs.declared.Code.the-variants.{Ok, Einval, Eperm, Ebadf, Eaddrinuse, Enospc, Enoent}
+use Rattle.answer.specs.declared.Code.the-variants.{Ok, Einval, Eperm, Ebadf}
 use Rattle.answer.specs.Answer.{numberOf}
 use Rattle.mem_domain.specs.declared.MemPartition.{MemPartition}
 use Rattle.mem_domain.specs.Scan.{lowest, anyTo}
@@ -20,18 +18,17 @@ use Rattle.mem_domain.proofs.Scan.{any-at, any-hit, any-none, any-miss}
 use Rattle.mem_domain.proofs.Domain.{add-accepts, added-ok, remove-matches, removed-ok}
 use Rattle.mem_domain.proofs.Slots.{no-clash, clash-none}
 use Rattle.userspace.specs.declared.KernelObject.{KernelObject}
-use Rattle.userspace.specs.declared.InitCheck.{InitCheck}
 use Rattle.userspace.specs.declared.Validated.the-variants.{Refused}
-use Rattle.userspace.specs.declared.InitCheck.the-variants.{MustBeInit, MustNotBeInit, DontCare}
-use Rattle.userspace.specs.Userspace.{THREADS, typeFits, access, initialised, initJudged, judged, validated, answerOf}
+use Rattle.userspace.specs.declared.InitCheck.the-variants.{MustBeInit, MustNotBeInit}
+use Rattle.userspace.specs.Bit.{isSet}
+use Rattle.userspace.specs.Userspace.{THREADS, public, holds, typeFits, access, initialised, initJudged, judged, validated, answerOf}
 use Rattle.tables.specs.Table.{HANDLES, DOMAINS}
 use Rattle.tables.specs.State.{State, object, thread, domain}
-use Rattle.mem_check.specs.Memory.{isCovered, coveredRun, reached, memoryRule}
+use Rattle.mem_check.specs.Memory.{coveredRun, reached, memoryRule}
 use Rattle.judging.specs.declared.Call.{Call}
-use Rattle.judging.specs.Calls.{Sup, create, delete, revoke, init, uninit, recycle, publish, thread as newThread, end, inherit, assign, add, remove, Op, validate, grant, release, check, exit, sup, unknown, opOf}
-use Rattle.judging.specs.Judge.{done, refused, _⇒_⨾_, live, supervisor, typeOf, mayUse, servesAt, serves, isMode, modeOf, isAttr, wellFormed, partitionOf, Use, noHandle, taken, free, useOf, withHandle, rule, supRule, isUnknown, isPrivileged, judgeOp, judge}
-use Rattle.call_laws.proofs.Cascade.{ok, pass}
-use Rattle.call_laws.proofs.Passed.{TakenAt, FreeAt, PassedAs, in-range}
+use Rattle.judging.specs.Calls.{create, delete, revoke, init, uninit, recycle, publish, thread as newThread, end, inherit, assign, add, remove, Op, validate, grant, release, check, exit, sup, unknown, opOf}
+use Rattle.judging.specs.Judge.{done, live, supervisor, typeOf, mayUse, servesAt, serves, isMode, modeOf, isAttr, wellFormed, partitionOf, Use, noHandle, taken, free, useOf, withHandle, rule, supRule, isUnknown, isPrivileged, judgeOp, judge}
+use Rattle.call_laws.proofs.Passed.{TakenAt, FreeAt, in-range}
 use Rattle.call_laws.proofs.Bytes.{EveryByte, run-all, all-run}
 use Rattle.call_laws.proofs.Iff.{lt-iff, eq-iff, ne-iff, gt-iff, le-iff, not-iff, unless-iff, same-iff, and-iff, or-iff, nor-iff, step-iff, last-iff}
 
@@ -77,6 +74,21 @@ Room ps = Some SLOTS (λ k. isFree (slotAt ps k) ≡ true)
 -- a slot has that start and size
 abbrev pub Match : List MemPartition → ℕ → ℕ → Type 0
 Match ps start size = Some SLOTS (λ k. (slotAt ps k .start ≡ start) × (slotAt ps k .size ≡ size))
+
+-- ---- what a state's tests say
+
+pub live-iff : (s : State) (t : ℕ) → (live s t ≡ true) ↔ (thread s t .role ≢ 0)
+live-iff s t = (λ e. ne-iff (thread s t .role) 0 .0 (not-true (eqb (thread s t .role) 0) e), λ n. rw (ne-iff (thread s t .role) 0 .1 n))
+
+pub supervisor-iff : (s : State) (t : ℕ) → (supervisor s t ≡ true) ↔ (thread s t .role ≡ 2)
+supervisor-iff s t = eq-iff (thread s t .role) 2
+
+-- access: a supervisor, or public, or its bit
+pub access-iff :
+    (s : State) (t h : ℕ) →
+    (mayUse s t h ≡ true) ↔ ((supervisor s t ≡ true) ⊎ ((public (object s h) ≡ true) ⊎ ((t < THREADS) × (isSet (object s h .word) t ≡ true))))
+unfolding access holds
+access-iff s t h = or-iff _ _ same-iff (or-iff _ _ same-iff (and-iff _ _ (lt-iff t THREADS) same-iff))
 
 -- ---- the fields of each operation
 

@@ -1,6 +1,6 @@
 -- What a change does to a list: none leaves it, one i f puts f of record i at i and leaves every other, each f goes through all. A statement about
 -- each place of the list is carried over by showing it of what is new.
-use Prim.Native.Nat.{ℕ, _<_, _≤_}
+use Prim.Native.Nat.{ℕ, _<_}
 use native.Mathlib.Decide.{decLt, ℕ-discrete}
 use native.Mathlib.Omega.{arith}
 use mathlib.Core.Path.{_≡_, refl, sym, ap, _∙_}

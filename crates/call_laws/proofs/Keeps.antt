@@ -1,15 +1,14 @@
 -- Each call keeps the rules, whatever the call: so once a state was judged, no VALUE can come in the middle of a run.
 use Prim.Native.Nat.{ℕ, _%_, _≤_, _<_}
 use native.Mathlib.Decide.{decLt, ℕ-discrete}
-use native.Mathlib.Nat.{mod-eq-of-lt}
 use native.Mathlib.Omega.{arith}
 use mathlib.Core.Path.{_≡_, refl, sym, ap, _∙_}
 use mathlib.Core.Logic.{_≢_, _⊎_, inl, inr, ⊎-elim}
 use mathlib.Core.Bool.{Bool, true, false, cond, not, _&&_, _||_, true≢false, false≢true}
 use mathlib.Core.List.{List, []}
-use lib.Dec.{eqb, ltb, leb, lit<, lit≤}
+use lib.Dec.{eqb, ltb, lit<, lit≤}
 use lib.ListN.{length, getD, List·getD-eq-default}
-use borrow.Author.Tests.{ltb-true, eqb-true, eq-eqb, not-true, not-false}
+use borrow.Author.Tests.{ltb-true, eqb-true, eq-eqb, not-false}
 use Rattle.mem_domain.specs.declared.MemPartition.{MemPartition}
 use Rattle.mem_domain.specs.Domain.{withCount, added, removed}
 use Rattle.mem_domain.proofs.Scan.{any-miss}
@@ -25,11 +24,11 @@ use Rattle.tables.specs.State.{State, object, thread, domain}
 use Rattle.rules.specs.Rules.{isLive, Keeps}
 use Rattle.judging.specs.declared.Call.{Call}
 use Rattle.judging.specs.Calls.{Sup, create, delete, revoke, init, uninit, recycle, publish, thread as newThread, end, inherit, assign, add, remove, Op, validate, grant, release, check, exit, sup, unknown, opOf, callOf}
-use Rattle.judging.specs.Judge.{live, servesAt, serves, partitionOf, wellFormed, isMode, isAttr, useOf, rule, supRule, judge, heard}
-use Rattle.judging.specs.Change.{Change, none, one, each, enact, inherited, objectChange, born, moved, threadChange, domainChange, change, after, left}
-use Rattle.call_laws.proofs.Cascade.{ok, pass}
+use Rattle.judging.specs.Judge.{live, servesAt, serves, partitionOf, wellFormed, isAttr, useOf, rule, supRule, judge, heard}
+use Rattle.judging.specs.Change.{one, each, enact, inherited, objectChange, born, moved, threadChange, domainChange, change, after, left}
+use Rattle.call_laws.proofs.Cascade.{ok}
 use Rattle.call_laws.proofs.Enact.{enact-length, one-keeps, each-keeps, each-at, one-same, one-other}
-use Rattle.call_laws.proofs.Passed.{TakenAt, FreeAt, PassedAs, in-range}
+use Rattle.call_laws.proofs.Passed.{PassedAs, in-range}
 use Rattle.call_laws.proofs.Parts.{threadIn, FineObject, FineThread, Alone, Parts, parts, whole, fine-flags, flags-set, flags-clear, fine-granted, fine-revoked, fine-recycled, fine-inherited, fine-fresh, revoked-none}
 use Rattle.call_laws.proofs.Slots.{slots-added, slots-removed}
 

@@ -1,4 +1,5 @@
 pub mod Cascade
+pub mod Numbers
 pub mod Enact
 pub mod Passed
 pub mod Parts

@@ -1,15 +1,15 @@
 -- Each of the eighteen operations: OK exactly when its conditions hold. The conditions stand in one record by their names, so that a reader can hold
 -- them against document 01; proofs/Conditions.antt has the proof for all of them.
-use Prim.Native.Nat.{ℕ, _+_, _≤_, _<_}
+use Prim.Native.Nat.{_+_, _≤_, _<_}
 use mathlib.Core.Path.{_≡_, refl, subst}
 use mathlib.Core.Logic.{_↔_, _≢_}
-use mathlib.Core.Bool.{Bool, true, false, false≢true}
+use mathlib.Core.Bool.{true, false, false≢true}
 use lib.Dec.{eqb}
 use Rattle.userspace.specs.Userspace.{THREADS, initialised}
 use Rattle.tables.specs.Table.{HANDLES, DOMAINS}
 use Rattle.tables.specs.State.{State, object, thread, domain}
 use Rattle.judging.specs.declared.Call.{Call}
-use Rattle.judging.specs.Calls.{Sup, create, delete, revoke, init, uninit, recycle, publish, thread as newThread, end, inherit, assign, add, remove, Op, validate, grant, release, check, exit, sup, unknown, opOf}
+use Rattle.judging.specs.Calls.{create, delete, revoke, init, uninit, recycle, publish, thread as newThread, end, inherit, assign, add, remove, Op, validate, grant, release, check, exit, sup, opOf}
 use Rattle.judging.specs.Judge.{live, supervisor, typeOf, mayUse, partitionOf, useOf, isPrivileged, judge}
 use Rattle.call_laws.proofs.Passed.{TakenAt}
 use Rattle.call_laws.proofs.Bytes.{EveryByte}

@@ -1,19 +1,18 @@
 -- The rules of a state taken apart by its records: what one object, one thread, one domain has to keep. A change of a record then owes that record's
 -- part alone.
-use Prim.Native.Nat.{ℕ, _%_, _^_, _≤_, _<_}
-use native.Mathlib.Decide.{decLt, ℕ-discrete}
+use Prim.Native.Nat.{ℕ, _≤_, _<_}
+use native.Mathlib.Decide.{ℕ-discrete}
 use native.Mathlib.Omega.{arith}
 use mathlib.Core.Path.{_≡_, refl, sym, ap, ap₂, _∙_}
 use mathlib.Core.Logic.{_≢_, _⊎_}
-use mathlib.Core.Bool.{Bool, true, false, cond, _&&_, true≢false, false≢true}
+use mathlib.Core.Bool.{Bool, true, false, cond, _&&_, true≢false}
 use mathlib.Core.List.{List, []}
-use lib.Dec.{eqb, ltb, lit<, lit≤}
+use lib.Dec.{ltb, lit<, lit≤}
 use lib.ListN.{length, getD}
-use Rattle.mem_domain.specs.declared.MemPartition.{MemPartition}
 use Rattle.domain_rules.specs.Sound.{SlotsKeep}
 use Rattle.userspace.specs.declared.KernelObject.{KernelObject}
-use Rattle.userspace.specs.Bit.{isSet, setBit, clearBit, set-lt, clear-lt, is-set-other, is-clear-same, is-clear-other, is-zero, bit-ext, clear-is, zero-bit}
-use Rattle.userspace.specs.Userspace.{THREADS, INITIALISED, PUBLIC, holds, withWord, withFlags, changedAt, done, refused, newObject, granted, revoked, recycled, initiated, uninitiated, published}
+use Rattle.userspace.specs.Bit.{isSet, setBit, clearBit, set-lt, clear-lt, is-set-other, is-clear-same, is-clear-other, is-zero}
+use Rattle.userspace.specs.Userspace.{THREADS, INITIALISED, holds, withWord, withFlags, changedAt, done, refused, newObject, granted, revoked, recycled, initiated}
 use Rattle.tables.specs.declared.Thread.{Thread}
 use Rattle.tables.specs.Table.{HANDLES, DOMAINS, noObject, nobody}
 use Rattle.tables.specs.State.{State, object, thread, domain}

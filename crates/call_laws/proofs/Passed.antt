@@ -4,17 +4,16 @@ use native.Mathlib.Omega.{arith}
 use mathlib.Core.Path.{_≡_, refl}
 use mathlib.Core.Logic.{_≢_}
 use mathlib.Core.Bool.{Bool, true, false, not, _&&_, true≢false, false≢true}
-use lib.Dec.{eqb, leb, lit<}
+use lib.Dec.{eqb, lit<}
 use borrow.Author.Tests.{leb-false, eqb-true, eqb-false, not-false}
 use Rattle.answer.specs.declared.Answer.{Answer}
-use Rattle.answer.specs.declared.Code.the-variants.{Einval, Eperm, Ebadf, Eaddrinuse}
 use Rattle.userspace.specs.Userspace.{THREADS}
 use Rattle.tables.specs.Table.{HANDLES}
 use Rattle.tables.specs.State.{State}
 use Rattle.judging.specs.declared.Call.{Call}
 use Rattle.judging.specs.Calls.{Op, opOf}
-use Rattle.judging.specs.Judge.{_⇒_⨾_, live, supervisor, typeOf, wellFormed, Use, noHandle, taken, free, useOf, withHandle, rule, isUnknown, isPrivileged, judgeOp, judge}
-use Rattle.call_laws.proofs.Cascade.{Past, ok}
+use Rattle.judging.specs.Judge.{live, supervisor, typeOf, wellFormed, Use, noHandle, taken, free, useOf, withHandle, rule, isUnknown, isPrivileged, judgeOp, judge}
+use Rattle.call_laws.proofs.Cascade.{ok}
 
 -- field a is a handle that is below 256 and taken, or free, as the operation wants it
 pub record TakenAt (s : State) (h : ℕ) : Type 0 where

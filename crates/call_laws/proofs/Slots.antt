@@ -1,16 +1,13 @@
 -- The slots of a domain that keep the rules keep them after an OK add and an OK remove.
-use Prim.Native.Nat.{ℕ, _≤_, _<_}
+use Prim.Native.Nat.{ℕ, _<_}
 use native.Mathlib.Decide.{decLt, ℕ-discrete}
 use native.Mathlib.Omega.{arith}
-use mathlib.Core.Path.{_≡_, refl, sym, ap, _∙_}
-use mathlib.Core.Logic.{_≢_}
-use mathlib.Core.Bool.{Bool, true, false, true≢false, false≢true}
+use mathlib.Core.Path.{_≡_, refl, sym, _∙_}
+use mathlib.Core.Bool.{true, false, true≢false, false≢true}
 use mathlib.Core.List.{List}
-use lib.ListN.{length, set, length-set}
-use Rattle.answer.specs.Answer.{numberOf}
-use Rattle.answer.specs.declared.Code.the-variants.{Ok}
+use lib.ListN.{set, length-set}
 use Rattle.mem_domain.specs.declared.MemPartition.{MemPartition}
-use Rattle.mem_domain.specs.Partition.{empty, isActive, isValid, overlapOf}
+use Rattle.mem_domain.specs.Partition.{empty, isActive, overlapOf}
 use Rattle.mem_domain.specs.Domain.{slots, slotAt, addable, lowestFree, lowestWindow, withCount, changedAt, added, removed}
 use Rattle.mem_domain.proofs.Partition.{overlap-sym, valid-size, size-active}
 use Rattle.mem_domain.proofs.Domain.{add-accepts, add-stores, remove-matches, remove-frees}
