@@ -1,0 +1,2 @@
+pub mod Latch
+pub mod Pump
