@@ -12,9 +12,10 @@ use Rattle.tables.specs.declared.Thread.{Thread}
 use Rattle.answer.specs.declared.Answer.{Answer}
 use Rattle.answer.specs.declared.Code.{Code}
 use Rattle.answer.specs.declared.Code.the-variants.{Einval, Eperm, Ebadf, Eaddrinuse}
-use Rattle.userspace.specs.Userspace.{THREADS, answerOf}
+use Rattle.userspace.specs.Userspace.{THREADS, answerOf, validated}
 use Rattle.userspace.specs.declared.Validated.{Validated}
 use Rattle.userspace.specs.declared.Validated.the-variants.{Ok as Fine, Refused}
+use Rattle.userspace.specs.declared.InitCheck.{InitCheck}
 use Rattle.userspace.specs.declared.KernelObject.{KernelObject}
 use Rattle.tables.specs.Table.{HANDLES, noObject}
 use Rattle.tables.specs.State.{State, object, thread}
@@ -165,3 +166,9 @@ validated-plain {v} {w} e = go v ∙ ap answerOf e
     go : (v : Validated) → plain (answerOf v .code) ≡ answerOf v
     go Fine = refl
     go (Refused n) = refl
+
+-- the same validation of the same things
+pub validated-same :
+    (t : ℕ) {o o′ : KernelObject} {n n′ : ℕ} {b b′ : Bool} {m m′ : InitCheck} → o ≡ o′ → n ≡ n′ → b ≡ b′ → m ≡ m′ →
+    validated o n t b m ≡ validated o′ n′ t b′ m′
+validated-same t p e q r = rw (p, q, r, e)

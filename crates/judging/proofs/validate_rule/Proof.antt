@@ -26,8 +26,7 @@ use Rattle.mem_domain.specs.declared.Changed.{Changed}
 use Rattle.mem_domain.specs.declared.MemDomain.{MemDomain}
 use Rattle.judging.specs.Judge.{checkIn, judge as judge·spec, judgeIn, sized, plain, slotAnswer, partitionOf}
 use Rattle.judging.proofs.Order.{bad-caller, dead-caller, no-op, open-op, not-theirs, theirs, role-live, role-dead, role-sup, role-not}
-use Rattle.userspace.specs.Userspace.{validated}
-use Rattle.judging.proofs.Order.{validated-plain}
+use Rattle.judging.proofs.Order.{validated-plain, validated-same}
 use Rattle.judging.specs.Judge.{plain}
 use borrow.Author.Needs.{needs}
 use Rattle.judging.proofs.validate_rule.Statement.{statement}
@@ -39,40 +38,42 @@ use Rattle.judging.proofs.mode_of.Reads as mode-of-reads
 use Rattle.judging.proofs.number.Reads as number-reads
 use Rattle.judging.proofs.object_in.Reads as object-in-reads
 use Rattle.judging.proofs.plain_answer.Reads as plain-answer-reads
+use Rattle.judging.proofs.type_byte.Reads as type-byte-reads
 use Rattle.userspace.proofs.KernelObject.validate.Reads as validate-reads
 
--- src/lib.rt:245:9
+-- src/lib.rt:253:9
 object-in-requires : tie.Need-object-in-requires
 object-in-requires c κs = search needs
 
--- src/lib.rt:246:9
+-- src/lib.rt:254:9
 is-supervisor-requires : tie.Need-is-supervisor-requires
 is-supervisor-requires c κs = search needs
 
--- src/lib.rt:247:9
+-- src/lib.rt:255:9
 mode-of-requires : tie.Need-mode-of-requires
 mode-of-requires c κs = search needs
 
--- src/lib.rt:248:36
-cast-validate : tie.Need-cast-validate
-cast-validate c = search needs
+-- src/lib.rt:256:9
+type-byte-requires : tie.Need-type-byte-requires
+unfolding rule object thread
+type-byte-requires c κs = (c .before .before .before .before .before .before .pre .1)
 
--- src/lib.rt:248:25
+-- src/lib.rt:257:25
 validate-requires : tie.Need-validate-requires
 validate-requires c κs = search needs
 
--- src/lib.rt:248:18
+-- src/lib.rt:257:18
 number-requires : tie.Need-number-requires
 number-requires c κs = search needs
 
--- src/lib.rt:248:5
+-- src/lib.rt:257:5
 plain-answer-requires : tie.Need-plain-answer-requires
 plain-answer-requires c κs = search needs
 
--- src/lib.rt:241:1
+-- src/lib.rt:249:1
 returns : tie.Need-returns
 unfolding rule object thread
-returns c = (c .plain-answer .ensures) ∙ ap plain (c .before .number .ensures) ∙ validated-plain ((c .before .before .validate .ensures) ∙ ?)
+returns c = (c .plain-answer .ensures) ∙ ap plain (c .before .number .ensures) ∙ validated-plain ((c .before .before .validate .ensures) ∙ validated-same _ (c .before .before .before .before .before .before .object-in .ensures) (c .before .before .before .type-byte .ensures) (c .before .before .before .before .before .is-supervisor .ensures) (c .before .before .before .before .mode-of .ensures))
 
 pub validate-rule-spec : {M : Type 1} → statement M
 validate-rule-spec =
@@ -81,7 +82,7 @@ validate-rule-spec =
     object-in-requires
     is-supervisor-requires
     mode-of-requires
-    cast-validate
+    type-byte-requires
     validate-requires
     number-requires
     plain-answer-requires
