@@ -342,7 +342,6 @@ fn exit(c: Call) -> Answer
     plain_answer(OK)
 }
 
-
 fn create_fields(c: Call) -> bool
     ensures { λ r. ⌜ r ≡ wellFormed (sup create) c ⌝ }
 {
