@@ -27,22 +27,22 @@ const EACH: u32 = 2;
 fn with_bit(o: KernelObject, t: u32) -> KernelObject
     ensures { λ r. ⌜ r ≡ granted o t .object ⌝ }
 {
-    let changed = o.grant_access(t);
-    changed.object
+    let granted = o.grant_access(t);
+    granted.object
 }
 
 fn without_bit(o: KernelObject, t: u32) -> KernelObject
     ensures { λ r. ⌜ r ≡ revoked o t .object ⌝ }
 {
-    let changed = o.revoke_access(t);
-    changed.object
+    let revoked = o.revoke_access(t);
+    revoked.object
 }
 
 fn recycled_for(o: KernelObject, t: u32) -> KernelObject
     ensures { λ r. ⌜ r ≡ recycled o t .object ⌝ }
 {
-    let changed = o.recycle(t);
-    changed.object
+    let recycled = o.recycle(t);
+    recycled.object
 }
 
 fn with_heritage(o: KernelObject, parent: u32, child: u32) -> KernelObject
