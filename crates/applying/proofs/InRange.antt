@@ -1,22 +1,22 @@
 -- What an OK of `judge` says of the records that the call names: they are of their tables, so that the tables after are the state after.
 use Prim.Native.Nat.{ℕ, _<_}
 use native.Mathlib.Omega.{arith}
-use mathlib.Core.Path.{_≡_, refl, sym, ap, _∙_}
+use mathlib.Core.Path.{_≡_, refl}
 use mathlib.Core.Bool.{Bool, true, false, not, _&&_, _||_, false≢true}
 use mathlib.Core.List.{List}
 use lib.Dec.{eqb, ltb, leb}
 use borrow.Author.Tests.{ltb-true, leb-false, not-false, eq-eqb}
 use Rattle.answer.specs.declared.Answer.{Answer}
 use Rattle.answer.specs.declared.Code.{Code}
-use Rattle.answer.specs.declared.Code.the-variants.{Einval, Eperm, Ebadf, Eaddrinuse}
+use Rattle.answer.specs.declared.Code.the-variants.{Einval, Eperm, Ebadf}
 use Rattle.answer.specs.Answer.{numberOf}
 use Rattle.userspace.specs.Userspace.{THREADS}
 use Rattle.tables.specs.Table.{HANDLES, DOMAINS}
 use Rattle.tables.specs.State.{State, stateOf, Fit}
 use Rattle.judging.specs.declared.Call.{Call}
-use Rattle.judging.specs.Calls.{Sup, create, delete, revoke, init, uninit, recycle, publish, thread, end, inherit, assign, add, remove, Op, validate, grant, release, check, exit, sup, unknown, opOf}
-use Rattle.judging.specs.Judge.{_⇒_⨾_, live, supervisor, typeOf, wellFormed, Use, noHandle, taken, free, useOf, withHandle, rule, isUnknown, isPrivileged, judgeOp, judge}
-use Rattle.judging.specs.Change.{Change, objectChange, threadChange, domainChange, after}
+use Rattle.judging.specs.Calls.{create, delete, revoke, init, uninit, recycle, publish, thread, end, inherit, assign, add, remove, Op, validate, grant, release, check, exit, sup, unknown, opOf}
+use Rattle.judging.specs.Judge.{_⇒_⨾_, live, supervisor, wellFormed, Use, noHandle, taken, free, useOf, withHandle, rule, isUnknown, isPrivileged, judgeOp, judge}
+use Rattle.judging.specs.Change.{objectChange, threadChange, domainChange, after}
 use Rattle.applying.specs.Apply.{enactObjects, enactThreads, enactSlots}
 use Rattle.applying.proofs.Picture.{InRange, applied}
 

@@ -1,5 +1,5 @@
 -- A call's number and its operation: a case for each, and what each reaches.
-use Prim.Native.Nat.{ℕ, zero, suc, _+_}
+use Prim.Native.Nat.{ℕ, _+_}
 use native.Mathlib.Numerals.{add-one}
 use native.Mathlib.Omega.{arith}
 use mathlib.Core.Path.{_≡_, refl, sym, ap, _∙_}
@@ -12,9 +12,9 @@ use Rattle.userspace.specs.declared.KernelObject.{KernelObject}
 use Rattle.userspace.specs.Bit.{bitOf, isSet}
 use Rattle.userspace.specs.Userspace.{THREADS, holds, granted, bitAnswer}
 use Rattle.judging.specs.declared.Call.{Call}
-use Rattle.judging.specs.Calls.{Sup, create, delete, revoke, init, uninit, recycle, publish, thread, end, inherit, assign, add, remove, Op, validate, grant, release, check, exit, sup, unknown, opOf}
+use Rattle.judging.specs.Calls.{create, delete, revoke, init, uninit, recycle, publish, thread, end, inherit, assign, add, remove, Op, validate, grant, release, check, exit, sup, unknown, opOf}
 use Rattle.judging.specs.Change.{Change, none, one, each, objectChange, threadChange, domainChange, inherited}
-use Rattle.applying.specs.Apply.{eachTo, enactIn, rewritten, scopeOf, objectScope}
+use Rattle.applying.specs.Apply.{eachTo, enactIn, rewritten, scopeOf}
 
 -- ---- what holds of each operation that the number may name holds of the one that it names
 split : (n k : ℕ) (P : Op → Type 0) (o rest : Op) → (n ≡ k → P o) → P rest → P (cond (eqb n k) o rest)

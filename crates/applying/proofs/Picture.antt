@@ -1,5 +1,5 @@
 -- The tables after a call are the picture of the state after it: for tables of the right lengths, once the record that a change names is of its table.
-use Prim.Native.Nat.{ℕ, zero, suc, _+_, _*_, _/_, _%_, _^_, _≤_, _<_}
+use Prim.Native.Nat.{ℕ, zero, suc, _*_, _/_, _≤_, _<_}
 use native.Mathlib.Decide.{ℕ-discrete, decLt}
 use native.Mathlib.Nat.{not-suc-le-zero, mod-lt, zero-lt-suc}
 use native.Mathlib.Omega.{arith}
@@ -16,18 +16,17 @@ use Rattle.mem_domain.specs.Domain.{slots as SLOTS, withCount, addable, hasFree
 use Rattle.mem_domain.specs.declared.Changed.{Changed as DomainChanged}
 use Rattle.mem_domain.specs.declared.MemPartition.{MemPartition}
 use Rattle.userspace.specs.declared.KernelObject.{KernelObject}
-use Rattle.userspace.specs.declared.Changed.{Changed}
-use Rattle.userspace.specs.Bit.{setBit, clearBit, set-lt, clear-lt}
-use Rattle.userspace.specs.Userspace.{THREADS, holds, granted, revoked, recycled, initiated, uninitiated, published, newObject, changedAt as objectChangedAt}
+use Rattle.userspace.specs.Bit.{setBit, set-lt, clear-lt}
+use Rattle.userspace.specs.Userspace.{THREADS, holds, granted, revoked, recycled, changedAt as objectChangedAt}
 use Rattle.userspace.specs.Laws.{refuses, does}
 use Rattle.tables.specs.declared.Thread.{Thread}
 use Rattle.tables.specs.Rows.{Outside, getD-sets-out, getD-sets-at}
 use Rattle.tables.specs.Tabulate.{tabulate, length-tabulate, getD-tabulate, tabulate-ext, tabulate-set}
-use Rattle.tables.specs.Table.{HANDLES, DOMAINS, noObject, nobody, objectAt, putObject, objectRow, threadAt, putThread, partitionsAt, putTo}
+use Rattle.tables.specs.Table.{HANDLES, DOMAINS, noObject, nobody, objectAt, putObject, objectRow, threadAt, putThread, partitionsAt}
 use Rattle.tables.specs.Laws.{Bytes, object-length, object-same, object-other, thread-length, thread-same, thread-other, put-length, domain-same, domain-other}
-use Rattle.tables.specs.State.{State, objectsOf, threadsOf, domainsOf, stateOf, Heads, Fit}
+use Rattle.tables.specs.State.{objectsOf, threadsOf, domainsOf, stateOf, Heads, Fit}
 use Rattle.judging.specs.declared.Call.{Call}
-use Rattle.judging.specs.Calls.{Sup, create, delete, revoke, init, uninit, recycle, publish, thread, end, inherit, assign, add, remove, Op, validate, grant, release, check, exit, sup, unknown, opOf}
+use Rattle.judging.specs.Calls.{create, delete, revoke, init, uninit, recycle, publish, thread, end, inherit, assign, add, remove, Op, validate, grant, release, check, exit, sup, unknown}
 use Rattle.judging.specs.Judge.{partitionOf}
 use Rattle.judging.specs.Change.{Change, none, one, each, enact, inherited, objectChange, threadChange, domainChange, change}
 use Rattle.applying.specs.Apply.{eachTo, enactIn, enactObjects, enactThreads, enactSlots, putSlots}

@@ -1,17 +1,20 @@
 -- The code's ways through a table, and the definition: the one record that is rewritten, each of them, or none.
 use Prim.Native.Nat.{ℕ}
-use mathlib.Core.Path.{_≡_, refl, sym, ap, _∙_}
+use mathlib.Core.Path.{_≡_}
 use mathlib.Core.List.{List}
-use Rattle.mem_domain.specs.Domain.{withCount}
-use Rattle.userspace.specs.Userspace.{THREADS}
-use Rattle.tables.specs.Table.{HANDLES, DOMAINS, objectAt, putObject, threadAt, putThread, partitionsAt, domainAt, putDomain}
+use Rattle.userspace.specs.Userspace.{THREADS, granted}
+use Rattle.tables.specs.Table.{HANDLES, objectAt, putObject, threadAt, putThread, domainAt, putDomain}
 use Rattle.judging.specs.declared.Call.{Call}
 use Rattle.judging.specs.Calls.{opOf}
 use Rattle.judging.specs.Change.{none, objectChange, threadChange, domainChange}
-use Rattle.applying.specs.Apply.{eachTo, enactIn, enactObjects, enactThreads, enactSlots, putSlots, objectAfter, threadAfter, domainAfter, objectScope}
+use Rattle.applying.specs.Apply.{eachTo, enactIn, enactObjects, enactThreads, enactSlots, objectAfter, threadAfter, domainAfter, objectScope}
 use Rattle.applying.proofs.Ops.{Reaches, enact-one, enact-each, enact-none, object-named}
 
 module _ (c : Call) (xs : List ℕ) where
+  pub object-granted : c .op ≡ 1 → putObject xs (c .a) (granted (objectAt xs (c .a)) (c .b) .object) ≡ enactObjects (objectChange (opOf (c .op)) c) xs
+  unfolding enactIn opOf objectChange
+  object-granted e = rw e
+
   pub object-one : objectScope c ≡ 1 → putObject xs (c .a) (objectAfter c (objectAt xs (c .a))) ≡ enactObjects (objectChange (opOf (c .op)) c) xs
   unfolding objectScope objectAfter
   object-one e = enact-one objectAt putObject HANDLES xs (objectChange (opOf (c .op)) c) (c .a) (object-named (opOf (c .op)) c e)
@@ -43,8 +46,3 @@ module _ (c : Call) (xs : List ℕ) where
   pub domain-none : domainChange (opOf (c .op)) c ≡ none → xs ≡ enactSlots (domainChange (opOf (c .op)) c) xs
   unfolding enactIn
   domain-none e = rw e
-
--- a grant names one object
-pub grant-one : (c : Call) → c .op ≡ 1 → objectScope c ≡ 1
-unfolding objectScope opOf objectChange
-grant-one c e = rw e

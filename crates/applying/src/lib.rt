@@ -4,6 +4,7 @@
 // (proofs/Picture.antt: `applied`, `fit-after`).
 ghost use mathlib.Core.Path.{_≡_};
 ghost use mathlib.Core.Bool.{cond};
+ghost use mathlib.Core.Logic.{_≢_};
 ghost use lib.Dec.{eqb};
 ghost use Rattle.userspace.specs.Userspace.{granted, revoked, recycled};
 ghost use Rattle.tables.specs.Table.{HANDLES as HANDLES·spec, nobody as nobody·spec, objectAt, putObject, threadAt, putThread, domainAt, putDomain};
@@ -55,13 +56,11 @@ fn with_heritage(o: KernelObject, parent: u32, child: u32) -> KernelObject
     o
 }
 
-// What a call makes of an object that it reaches, by its number alone. Grant comes first: it is what threads do most.
+// What a call makes of an object that it reaches, by its number alone. Grant has a way of its own.
 fn object_after(c: Call, o: KernelObject) -> KernelObject
+    requires { ⌜ c .op ≢ 1 ⌝ }
     ensures { λ r. ⌜ r ≡ objectAfter c o ⌝ }
 {
-    if c.op == 1 {
-        return with_bit(o, c.b);
-    }
     let op = c.op;
     match op {
         2 => without_bit(o, c.caller),
@@ -87,11 +86,11 @@ fn object_after(c: Call, o: KernelObject) -> KernelObject
 
 // Calls that change no object are left at once.
 fn object_scope(c: Call) -> u32
+    requires { ⌜ c .op ≢ 1 ⌝ }
     ensures { λ r. ⌜ r ≡ objectScope c ⌝ }
 {
     let op = c.op;
     match op {
-        1 => ONE,
         2 => ONE,
         4 => EACH,
         16 => ONE,
@@ -107,7 +106,16 @@ fn object_scope(c: Call) -> u32
     }
 }
 
+fn grant_object(objects: &mut [u64], h: u32, t: u32)
+    ensures { λ _. ⌜ now (objects .exit) ≡ putObject (now (objects .entry)) h (granted (objectAt (now (objects .entry)) h) t .object) ⌝ }
+{
+    let o = tables::load_object(objects, h);
+    let granted = with_bit(o, t);
+    tables::store_object(objects, h, granted);
+}
+
 fn change_object(objects: &mut [u64], h: u32, c: Call)
+    requires { ⌜ c .op ≢ 1 ⌝ }
     ensures { λ _. ⌜ now (objects .exit) ≡ putObject (now (objects .entry)) h (objectAfter c (objectAt (now (objects .entry)) h)) ⌝ }
 {
     let o = tables::load_object(objects, h);
@@ -116,6 +124,7 @@ fn change_object(objects: &mut [u64], h: u32, c: Call)
 }
 
 fn change_each(objects: &mut [u64], c: Call)
+    requires { ⌜ c .op ≢ 1 ⌝ }
     ensures { λ _. ⌜ now (objects .exit) ≡ eachTo objectAt putObject (objectAfter c) (now (objects .entry)) HANDLES·spec ⌝ }
 {
     let mut h: u32 = 0;
@@ -125,12 +134,12 @@ fn change_each(objects: &mut [u64], c: Call)
     }
 }
 
-// Grant is the first test: it is on the hot path.
+// Grant is the first test, and goes its own short way: it is what threads do most.
 pub fn change_objects(objects: &mut [u64], c: Call)
     ensures { λ _. ⌜ now (objects .exit) ≡ enactObjects (objectChange (opOf (c .op)) c) (now (objects .entry)) ⌝ }
 {
     if c.op == 1 {
-        change_object(objects, c.a, c);
+        grant_object(objects, c.a, c.b);
         return;
     }
     let scope = object_scope(c);

@@ -1,22 +1,6 @@
-use mathlib.Core.Path.{_≡_, refl, sym, ap, _∙_}
-use Prim.Native.Nat.{ℕ, _-_, _≤_, _<_}
-use native.Mathlib.Omega.{arith}
-use lib.ListN.{length}
-use Rattle.userspace.specs.declared.KernelObject.{KernelObject}
-use Rattle.judging.specs.Calls.{opOf}
-use Rattle.judging.specs.Change.{inherited, objectChange, threadChange, domainChange}
-use Rattle.tables.specs.Table.{HANDLES, objectAt, putObject, threadAt, putThread, partitionsAt}
-use Rattle.userspace.specs.Userspace.{THREADS}
-use Rattle.applying.specs.Apply.{objectAfter, threadAfter, domainAfter, objectScope, rewritten, scopeOf, eachTo}
-use Rattle.applying.proofs.Ops.{no-object, no-thread, no-domain, enact-one, enact-each, enact-none, each-none, each-more, object-named, heir, no-heir}
 use borrow.Author.Needs.{needs}
 use Rattle.applying.proofs.change_domain.Statement.{statement}
 use Rattle.applying.proofs.change_domain.Tie as tie
-use Rattle.applying.proofs.change_domain.Reads as reads
-use Rattle.applying.proofs.change_domain.Lts as lts
-use Rattle.applying.proofs.domain_after.Reads as domain-after-reads
-use Rattle.tables.proofs.load_domain.Reads as load-domain-reads
-use Rattle.tables.proofs.store_domain.Reads as store-domain-reads
 
 -- src/lib.rt:232:9
 load-domain-requires : tie.Need-load-domain-requires

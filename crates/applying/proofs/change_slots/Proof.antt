@@ -1,15 +1,9 @@
-use mathlib.Core.Path.{_≡_, refl, sym, ap, _∙_}
-use native.Mathlib.Omega.{arith}
-use Rattle.judging.specs.Calls.{opOf}
-use Rattle.judging.specs.Change.{threadChange}
-use Rattle.applying.proofs.Ops.{no-thread, no-domain}
-use Rattle.applying.proofs.Tables.{object-one, object-each, object-none, grant-one, thread-one, thread-none, domain-add, domain-remove, domain-none}
+use mathlib.Core.Path.{_∙_}
+use Rattle.applying.proofs.Ops.{no-domain}
+use Rattle.applying.proofs.Tables.{domain-add, domain-remove, domain-none}
 use borrow.Author.Needs.{needs}
 use Rattle.applying.proofs.change_slots.Statement.{statement}
 use Rattle.applying.proofs.change_slots.Tie as tie
-use Rattle.applying.proofs.change_slots.Reads as reads
-use Rattle.applying.proofs.change_slots.Lts as lts
-use Rattle.applying.proofs.change_domain.Reads as change-domain-reads
 
 -- src/lib.rt:242:15
 change-domain-requires : tie.Need-change-domain-requires

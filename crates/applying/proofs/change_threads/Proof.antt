@@ -1,15 +1,12 @@
-use mathlib.Core.Path.{_≡_, refl, sym, ap, _∙_}
+use mathlib.Core.Path.{refl, _∙_}
 use native.Mathlib.Omega.{arith}
 use Rattle.judging.specs.Calls.{opOf}
 use Rattle.judging.specs.Change.{threadChange}
-use Rattle.applying.proofs.Ops.{no-thread, no-domain}
-use Rattle.applying.proofs.Tables.{object-one, object-each, object-none, grant-one, thread-one, thread-none, domain-add, domain-remove, domain-none}
+use Rattle.applying.proofs.Ops.{no-thread}
+use Rattle.applying.proofs.Tables.{thread-one, thread-none}
 use borrow.Author.Needs.{needs}
 use Rattle.applying.proofs.change_threads.Statement.{statement}
 use Rattle.applying.proofs.change_threads.Tie as tie
-use Rattle.applying.proofs.change_threads.Reads as reads
-use Rattle.applying.proofs.change_threads.Lts as lts
-use Rattle.applying.proofs.change_thread.Reads as change-thread-reads
 
 -- src/lib.rt:200:14
 change-thread-requires : tie.Need-change-thread-requires

@@ -1,21 +1,9 @@
-use mathlib.Core.Path.{_≡_, refl, sym, ap, _∙_}
-use Prim.Native.Nat.{ℕ, _-_, _≤_, _<_}
-use native.Mathlib.Omega.{arith}
+use mathlib.Core.Path.{ap}
 use borrow.Author.Tests.{eq-eqb, ne-eqb}
-use Rattle.answer.specs.Tests.{via}
-use Rattle.userspace.specs.Userspace.{holds, bitAnswer}
-use Rattle.judging.specs.Calls.{opOf}
-use Rattle.judging.specs.Change.{inherited, objectChange, threadChange, domainChange}
-use Rattle.tables.specs.Table.{objectAt, putObject, threadAt, putThread}
-use Rattle.applying.specs.Apply.{objectAfter, threadAfter, domainAfter, objectScope, rewritten, scopeOf, eachTo}
-use Rattle.applying.proofs.Ops.{no-object, no-thread, no-domain, enact-one, enact-each, enact-none, each-none, each-more, object-named}
+use Rattle.applying.specs.Apply.{domainAfter}
 use borrow.Author.Needs.{needs}
 use Rattle.applying.proofs.domain_after.Statement.{statement}
 use Rattle.applying.proofs.domain_after.Tie as tie
-use Rattle.applying.proofs.domain_after.Reads as reads
-use Rattle.applying.proofs.domain_after.Lts as lts
-use Rattle.mem_domain.proofs.MemDomain.add_partition.Reads as add-partition-reads
-use Rattle.mem_domain.proofs.MemDomain.remove_partition.Reads as remove-partition-reads
 
 -- src/lib.rt:198:13
 add-partition-requires : tie.Need-add-partition-requires

@@ -1,26 +1,12 @@
-use lib.ListN.{length}
-use Rattle.userspace.specs.declared.KernelObject.{KernelObject}
-use Rattle.tables.specs.Table.{HANDLES, objectAt, putObject, threadAt, putThread, partitionsAt}
-use Rattle.userspace.specs.Userspace.{THREADS}
-use Rattle.applying.proofs.Ops.{no-object, no-thread, no-domain, enact-one, enact-each, enact-none, each-none, each-more, object-named, heir, no-heir}
-use mathlib.Core.Path.{_≡_, refl, sym, ap, _∙_}
-use Prim.Native.Nat.{ℕ, _-_, _≤_, _<_}
+use Rattle.applying.proofs.Ops.{no-thread}
+use mathlib.Core.Path.{sym, ap}
 use native.Mathlib.Omega.{arith}
-use borrow.Author.Tests.{eq-eqb, ne-eqb}
-use Rattle.answer.specs.Tests.{via}
-use Rattle.userspace.specs.Userspace.{holds, bitAnswer}
 use Rattle.judging.specs.Calls.{opOf}
-use Rattle.judging.specs.Change.{inherited, objectChange, threadChange, domainChange}
-use Rattle.tables.specs.Table.{objectAt, putObject, threadAt, putThread}
-use Rattle.applying.specs.Apply.{objectAfter, threadAfter, domainAfter, objectScope, rewritten, scopeOf, eachTo}
-use Rattle.applying.proofs.Ops.{no-object, no-thread, no-domain, enact-one, enact-each, enact-none, each-none, each-more, object-named}
+use Rattle.judging.specs.Change.{threadChange}
+use Rattle.applying.specs.Apply.{threadAfter, rewritten}
 use borrow.Author.Needs.{needs}
 use Rattle.applying.proofs.thread_after.Statement.{statement}
 use Rattle.applying.proofs.thread_after.Tie as tie
-use Rattle.applying.proofs.thread_after.Reads as reads
-use Rattle.applying.proofs.thread_after.Lts as lts
-use Rattle.applying.proofs.nobody.Reads as nobody-reads
-use Rattle.applying.proofs.role_of.Reads as role-of-reads
 
 -- src/lib.rt:170:14
 nobody-requires : tie.Need-nobody-requires

@@ -1,21 +1,8 @@
-use mathlib.Core.Path.{_≡_, refl, sym, ap, _∙_}
-use Prim.Native.Nat.{ℕ, _-_, _≤_, _<_}
-use native.Mathlib.Omega.{arith}
-use lib.ListN.{length}
-use Rattle.userspace.specs.declared.KernelObject.{KernelObject}
-use Rattle.judging.specs.Calls.{opOf}
-use Rattle.judging.specs.Change.{inherited, objectChange, threadChange, domainChange}
-use Rattle.tables.specs.Table.{HANDLES, objectAt, putObject, threadAt, putThread, partitionsAt}
-use Rattle.userspace.specs.Userspace.{THREADS}
-use Rattle.applying.specs.Apply.{objectAfter, threadAfter, domainAfter, objectScope, rewritten, scopeOf, eachTo}
-use Rattle.applying.proofs.Ops.{no-object, no-thread, no-domain, enact-one, enact-each, enact-none, each-none, each-more, object-named, heir, no-heir}
+use mathlib.Core.Path.{_∙_}
+use Rattle.applying.proofs.Ops.{heir, no-heir}
 use borrow.Author.Needs.{needs}
 use Rattle.applying.proofs.with_heritage.Statement.{statement}
 use Rattle.applying.proofs.with_heritage.Tie as tie
-use Rattle.applying.proofs.with_heritage.Reads as reads
-use Rattle.applying.proofs.with_heritage.Lts as lts
-use Rattle.applying.proofs.with_bit.Reads as with-bit-reads
-use Rattle.userspace.proofs.KernelObject.has_perm.Reads as has-perm-reads
 
 -- src/lib.rt:51:9
 has-perm-requires : tie.Need-has-perm-requires
