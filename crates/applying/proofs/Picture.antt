@@ -59,11 +59,11 @@ record Laws {A : Type 0} (load : List ℕ → ℕ → A) (put : List ℕ → ℕ
 
 module _
     {A : Type 0} {load : List ℕ → ℕ → A} {put : List ℕ → ℕ → A → List ℕ} {n : ℕ} {Good : A → Type 0} {Form : List ℕ → Type 0}
-    (laws : Laws load put n Good Form) (z : A)
+    (laws : Laws load put n Good Form)
   where
     module _ (f : A → A) (keeps : (x : A) → Good x → Good (f x)) (xs : List ℕ) (fits : Form xs) where
-      one-picture : (i : ℕ) → i < n → tabulate n (load (put xs i (f (load xs i)))) ≡ set (tabulate n (load xs)) i (f (getD (tabulate n (load xs)) i z))
-      one-picture i h =
+      one-picture : (z : A) (i : ℕ) → i < n → tabulate n (load (put xs i (f (load xs i)))) ≡ set (tabulate n (load xs)) i (f (getD (tabulate n (load xs)) i z))
+      one-picture z i h =
           tabulate-set n (load xs) (load (put xs i (f (load xs i)))) i z (λ k g ne. laws .other xs i k (f (load xs i)) ne)
           ∙ ap (set (tabulate n (load xs)) i)
           (laws .same xs i (f (load xs i)) fits h (keeps (load xs i) (laws .good xs i)) ∙ ap f (sym (getD-tabulate n (load xs) i z h)))
@@ -97,11 +97,11 @@ module _
           tabulate-ext n (load (eachTo load put f xs n)) (λ k. f (load xs k)) (λ k h. each-done n k (omega arith) h) ∙ sym (map-tabulate n f (load xs))
 
     -- the picture of the table after is the picture before, changed
-    pictured : (ch : Change A) → Keeps Good ch → Within n ch → (xs : List ℕ) → Form xs → tabulate n (load (enactIn load put n ch xs)) ≡ enact z ch (tabulate n (load xs))
+    pictured : (z : A) (ch : Change A) → Keeps Good ch → Within n ch → (xs : List ℕ) → Form xs → tabulate n (load (enactIn load put n ch xs)) ≡ enact z ch (tabulate n (load xs))
     unfolding enactIn enact
-    pictured none k w xs h = refl
-    pictured (one i f) k w xs h = one-picture f k xs h i w
-    pictured (each f) k w xs h = each-picture f k xs h
+    pictured z none k w xs h = refl
+    pictured z (one i f) k w xs h = one-picture f k xs h z i w
+    pictured z (each f) k w xs h = each-picture f k xs h
 
     -- and the table keeps its form, whatever it names
     formed : (ch : Change A) → Keeps Good ch → (xs : List ℕ) → Form xs → Form (enactIn load put n ch xs)
@@ -209,7 +209,7 @@ module _ (ch : Change KernelObject) (keeps : Keeps Bytes ch) (xs : List ℕ) (fo
   objects-picture w = pictured object-laws noObject ch keeps w xs form
 
   pub objects-form : ObjectTable (enactObjects ch xs)
-  objects-form = formed object-laws noObject ch keeps xs form
+  objects-form = formed object-laws ch keeps xs form
 
 -- ---- threads: any record will do
 
@@ -239,7 +239,7 @@ module _ (ch : Change Thread) (xs : List ℕ) (form : length xs ≡ 3 * THREADS)
   threads-picture w = pictured thread-laws nobody ch (any-keeps ch) w xs form
 
   pub threads-length : length (enactThreads ch xs) ≡ 3 * THREADS
-  threads-length = formed thread-laws nobody ch (any-keeps ch) xs form
+  threads-length = formed thread-laws ch (any-keeps ch) xs form
 
 -- ---- domains: of sixteen slots
 
@@ -310,7 +310,7 @@ module _ (ch : Change (List MemPartition)) (keeps : Keeps Sixteen ch) (xs : List
   slots-picture w = pictured slot-laws [] ch keeps w xs form
 
   pub slots-length : length (enactSlots ch xs) ≡ 3 * (SLOTS * DOMAINS)
-  slots-length = formed slot-laws [] ch keeps xs form
+  slots-length = formed slot-laws ch keeps xs form
 
 -- ---- the state
 
