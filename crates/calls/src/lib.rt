@@ -61,13 +61,13 @@ fn hear(objects: &mut [u64], threads: &mut [u32], slots: &mut [u32], bytes: &[u8
 pub fn call(objects: &mut [u64], threads: &mut [u32], slots: &mut [u32], bytes: &[u8]) -> Answer
     ensures { λ r. ⌜ Called (now (objects .entry)) (now (threads .entry)) (now (slots .entry)) (now (bytes .entry)) r (now (objects .exit)) (now (threads .exit)) (now (slots .exit)) ⌝ }
 {
-    if !rules::keeps(objects, threads, slots) {
-        return Answer {
-            code: answer::VALUE,
-            value: 0,
-        };
+    if rules::keeps(objects, threads, slots) {
+        return hear(objects, threads, slots, bytes);
     }
-    hear(objects, threads, slots, bytes)
+    Answer {
+        code: answer::VALUE,
+        value: 0,
+    }
 }
 
 fn put_answer(out: &mut [u32], k: usize, a: Answer)

@@ -1,5 +1,4 @@
-use Prim.Native.Nat.{_-_}
-use Rattle.judging.proofs.Order.{via-no, via-yes}
+use Rattle.answer.specs.Tests.{via}
 use Rattle.rules.proofs.Rules.{test-sound}
 use Rattle.calls.proofs.Laws.{call-refused, call-heard}
 use borrow.Author.Needs.{needs}
@@ -10,9 +9,13 @@ use Rattle.calls.proofs.call.Lts as lts
 use Rattle.calls.proofs.hear.Reads as hear-reads
 use Rattle.rules.proofs.keeps.Reads as keeps-reads
 
--- src/lib.rt:64:9
+-- src/lib.rt:64:8
 keeps-requires : tie.Need-keeps-requires
 keeps-requires c κs = search needs
+
+-- src/lib.rt:65:9
+hear-requires : tie.Need-hear-requires
+hear-requires c κs = test-sound _ _ _ (via (c .before .before .before .before .keeps .ensures) (c .before .before .before .if1 .taken))
 
 -- src/lib.rt:65:9
 same-length : tie.Need-same-length
@@ -28,11 +31,7 @@ same-length-3 c = search needs
 
 -- src/lib.rt:65:9
 returns : tie.Need-returns
-returns c = call-refused _ _ _ _ (via-no (c .before .keeps .ensures) (c .if1 .taken))
-
--- src/lib.rt:70:5
-hear-requires : tie.Need-hear-requires
-hear-requires c κs = test-sound _ _ _ (via-yes (c .before .before .before .before .keeps .ensures) (c .before .before .before .if1 .left))
+returns c = call-heard _ _ _ _ (via (c .before .before .before .before .before .before .before .before .before .before .before .keeps .ensures) (c .before .before .before .before .before .before .before .before .before .before .if1 .taken)) (c .before .before .before .before .before .before .hear .ensures)
 
 -- src/lib.rt:61:1
 same-length-4 : tie.Need-same-length-4
@@ -48,18 +47,18 @@ same-length-6 c = search needs
 
 -- src/lib.rt:61:1
 returns-2 : tie.Need-returns-2
-returns-2 c = call-heard _ _ _ _ (via-yes (c .before .before .before .before .before .before .before .before .before .before .before .keeps .ensures) (c .before .before .before .before .before .before .before .before .before .before .if1 .left)) (c .before .before .before .before .before .before .hear .ensures)
+returns-2 c = call-refused _ _ _ _ (via (c .before .keeps .ensures) (c .if1 .left))
 
 pub call-spec : {M : Type 1} → statement M
 call-spec =
     tie.close
     (tie.spec
     keeps-requires
+    hear-requires
     same-length
     same-length-2
     same-length-3
     returns
-    hear-requires
     same-length-4
     same-length-5
     same-length-6
