@@ -10,7 +10,7 @@ ghost use Rattle.mem_domain.specs.Domain.{slots, activeCount, withCount,
 // Upstream's limit, and the same as a number of places.
 pub const MAX_PARTITIONS: u32 = 16;
 
-const SLOTS: usize = 16;
+const SLOTS: usize = MAX_PARTITIONS as usize;
 
 // A window of addresses and its rights. Size 0 marks a free slot.
 pub struct MemPartition {
