@@ -1,0 +1,3 @@
+pub mod Step
+pub mod Views
+pub mod Own
