@@ -1,3 +1,4 @@
 pub mod Step
 pub mod Views
 pub mod Own
+pub mod Others
