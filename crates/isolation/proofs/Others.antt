@@ -22,14 +22,14 @@ use Rattle.isolation.proofs.Views.{access-by, agree-refl, agree-kept}
 -- ---- one bit of one object
 
 -- every bit but the one stays
-put-bits : {s s′ : State} {a v : ℕ} {b : Bool} → OneObject s s′ a (BitIs b v) → (h u : ℕ) → (h ≡ a → u ≢ v) → bitAt s h u ≡ bitAt s′ h u
+pub put-bits : {s s′ : State} {a v : ℕ} {b : Bool} → OneObject s s′ a (BitIs b v) → (h u : ℕ) → (h ≡ a → u ≢ v) → bitAt s h u ≡ bitAt s′ h u
 put-bits {s} {s′} {a} {v} r h u n = go (ℕ-discrete h a)
   where
     go : Dec (h ≡ a) → bitAt s h u ≡ bitAt s′ h u
     go (yes e) = rw e (sym (r .here .others u (n e)))
     go (no d) = rw (r .others h d)
 
-put-agree : {s s′ : State} {a v : ℕ} {b : Bool} {t : ℕ} → OneObject s s′ a (BitIs b v) → t ≢ v → Agree s s′ t
+pub put-agree : {s s′ : State} {a v : ℕ} {b : Bool} {t : ℕ} → OneObject s s′ a (BitIs b v) → t ≢ v → Agree s s′ t
 put-agree {s} {s′} {a} {v} {b} {t} r n = agree-kept (one-fixed r) (same-threads s s′ (r .threads)) (λ h. put-bits r h t (λ _. n))
 
 -- ---- a call by another leaves the view

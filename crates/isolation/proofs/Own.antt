@@ -100,7 +100,7 @@ same-next {s₁} {s₁′} {s₂} {s₂′} t r₁ r₂ m g =
     (λ h p. g .inits h (put-access t r₁ m h p))
 
 -- who has ended has access to what is public alone, as before
-ended-access : {s s′ : State} (t : ℕ) → Ended s s′ t → (h : ℕ) → mayUse s′ t h ≡ true → mayUse s t h ≡ true
+pub ended-access : {s s′ : State} (t : ℕ) → Ended s s′ t → (h : ℕ) → mayUse s′ t h ≡ true → mayUse s t h ≡ true
 ended-access {s} {s′} t r h p = go (access-iff s′ t h .0 p)
   where
     go : (supervisor s′ t ≡ true) ⊎ ((public (object s′ h) ≡ true) ⊎ ((t < THREADS) × (bitAt s′ h t ≡ true))) → mayUse s t h ≡ true
