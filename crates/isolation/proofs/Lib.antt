@@ -4,3 +4,4 @@ pub mod Own
 pub mod Others
 pub mod Gain
 pub mod Runs
+pub mod Rules

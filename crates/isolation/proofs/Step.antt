@@ -50,6 +50,10 @@ pub record Fixed (s s′ : State) : Type 0 where
 pub fixed-refl : (s : State) → Fixed s s
 fixed-refl s = record { kinds = λ h. refl; flags = λ h. refl; domains = λ d. refl }
 
+pub fixed-trans : {s s′ s″ : State} → Fixed s s′ → Fixed s′ s″ → Fixed s s″
+fixed-trans f g =
+    record { kinds = λ h. g .kinds h ∙ f .kinds h; flags = λ h. g .flags h ∙ f .flags h; domains = λ d. g .domains d ∙ f .domains d }
+
 same-domains : (s s′ : State) → s′ .domains ≡ s .domains → (d : ℕ) → domain s′ d ≡ domain s d
 unfolding domain
 same-domains s s′ e d = rw e
