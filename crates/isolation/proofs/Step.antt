@@ -63,7 +63,7 @@ unfolding thread
 same-threads s s′ e u = rw e
 
 -- a field of one object that its change leaves stays everywhere
-one-field : {A : Type 0} (f : KernelObject → A) {s s′ : State} {a : ℕ} {R : KernelObject → KernelObject → Type 0} → OneObject s s′ a R → f (object s′ a) ≡ f (object s a) → (h : ℕ) → f (object s′ h) ≡ f (object s h)
+pub one-field : {A : Type 0} (f : KernelObject → A) {s s′ : State} {a : ℕ} {R : KernelObject → KernelObject → Type 0} → OneObject s s′ a R → f (object s′ a) ≡ f (object s a) → (h : ℕ) → f (object s′ h) ≡ f (object s h)
 one-field f {s} {s′} {a} r e h = go (ℕ-discrete h a)
   where
     go : Dec (h ≡ a) → f (object s′ h) ≡ f (object s h)
