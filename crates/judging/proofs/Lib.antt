@@ -1,3 +1,4 @@
 pub mod Order
 pub mod Ops
 pub mod Sizes
+pub mod Unique

@@ -4,20 +4,20 @@ use native.Mathlib.Omega.{arith}
 use mathlib.Core.Path.{_≡_, refl, sym, ap, _∙_}
 use mathlib.Core.Logic.{_≢_, ⊎-elim}
 use native.Mathlib.Nat.{eq-or-lt-of-le}
-use mathlib.Core.Bool.{Bool, true, false, cond, not, _&&_, _||_, false≢true}
+use mathlib.Core.Bool.{Bool, true, false, not, _&&_, _||_, false≢true}
 use lib.Dec.{eqb, ltb}
-use borrow.Author.Tests.{ne-eqb, not-true}
+use borrow.Author.Tests.{not-true}
 use native.Mathlib.Decide.{decLt}
 use Rattle.domain_rules.specs.Scan.{allTo}
 use Rattle.domain_rules.proofs.All.{all-at}
-use Rattle.answer.specs.Tests.{gt-eqb, lt-eqb}
+use Rattle.answer.specs.Tests.{gt-eqb}
 use Rattle.answer.specs.declared.Code.the-variants.{Einval}
 use Rattle.userspace.specs.Userspace.{THREADS}
 use Rattle.tables.specs.Table.{DOMAINS}
 use Rattle.tables.specs.State.{State, object, thread, domain}
 use Rattle.judging.proofs.Order.{pass-not}
 use Rattle.judging.specs.declared.Call.{Call}
-use Rattle.judging.specs.Calls.{Op, sup, unknown, opOf}
+use Rattle.judging.specs.Calls.{unknown, opOf}
 use Rattle.judging.specs.Judge.{done, wellFormed, bareFields, Use, taken, free, noHandle, useOf, withHandle, supRule, rule, isUnknown, isPrivileged, judgeOp, namedIn, inheritIn, createIn, checkIn, exitIn, addIn, removeIn, threadFields}
 
 absurd-or : (n : ℕ) → 17 ≤ n → n < 19 → n ≢ 18 → n ≡ 17
@@ -68,10 +68,26 @@ no-op-between n l h = each-of (λ n. isUnknown (opOf n)) 5 11 refl n l h
 pub no-op-above : (n : ℕ) → 28 < n → opOf n ≡ unknown
 unfolding opOf
 no-op-above n h =
-    rw (gt-eqb n 0 (omega arith), gt-eqb n 1 (omega arith), gt-eqb n 2 (omega arith), gt-eqb n 3 (omega arith), gt-eqb n 4 (omega arith),
-    gt-eqb n 16 (omega arith), gt-eqb n 17 (omega arith), gt-eqb n 18 (omega arith), gt-eqb n 19 (omega arith), gt-eqb n 20 (omega arith),
-    gt-eqb n 21 (omega arith), gt-eqb n 22 (omega arith), gt-eqb n 23 (omega arith), gt-eqb n 24 (omega arith), gt-eqb n 25 (omega arith),
-    gt-eqb n 26 (omega arith), gt-eqb n 27 (omega arith), gt-eqb n 28 h)
+    rw (
+      gt-eqb n 0 (omega arith),
+      gt-eqb n 1 (omega arith),
+      gt-eqb n 2 (omega arith),
+      gt-eqb n 3 (omega arith),
+      gt-eqb n 4 (omega arith),
+      gt-eqb n 16 (omega arith),
+      gt-eqb n 17 (omega arith),
+      gt-eqb n 18 (omega arith),
+      gt-eqb n 19 (omega arith),
+      gt-eqb n 20 (omega arith),
+      gt-eqb n 21 (omega arith),
+      gt-eqb n 22 (omega arith),
+      gt-eqb n 23 (omega arith),
+      gt-eqb n 24 (omega arith),
+      gt-eqb n 25 (omega arith),
+      gt-eqb n 26 (omega arith),
+      gt-eqb n 27 (omega arith),
+      gt-eqb n 28 h,
+    )
 
 pub above-unknown : (n : ℕ) → 28 < n → isUnknown (opOf n) ≡ true
 unfolding isUnknown

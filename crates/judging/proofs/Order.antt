@@ -1,27 +1,26 @@
 -- How far a call has come in the order: one law for each step, over any operation. The code's functions cite these and take no cascade apart.
 use Prim.Native.Nat.{ℕ, _<_, _≤_}
-use native.Mathlib.Omega.{arith}
 use mathlib.Core.Path.{_≡_, refl, sym, ap, _∙_}
-use mathlib.Core.Bool.{Bool, true, false, cond, not, _&&_, true≢false, false≢true}
-use mathlib.Core.List.{List}
+use mathlib.Core.Bool.{Bool, true, false, cond, not, _&&_, false≢true}
 use lib.Dec.{eqb, ltb, leb}
 use lib.ListN.{getD}
-use borrow.Author.Tests.{lt-ltb, le-ltb, lt-leb, le-leb, eq-eqb, ne-eqb, not-true, not-false}
+use borrow.Author.Tests.{lt-leb, le-leb, eq-eqb, ne-eqb, not-true, not-false}
 use mathlib.Core.Logic.{_≢_}
 use Rattle.tables.specs.declared.Thread.{Thread}
 use Rattle.answer.specs.declared.Answer.{Answer}
 use Rattle.answer.specs.declared.Code.{Code}
-use Rattle.answer.specs.declared.Code.the-variants.{Einval, Eperm, Ebadf, Eaddrinuse}
-use Rattle.userspace.specs.Userspace.{THREADS, answerOf}
+use Rattle.answer.specs.declared.Code.the-variants.{Einval, Eperm, Ebadf}
+use Rattle.userspace.specs.Userspace.{THREADS, answerOf, validated}
 use Rattle.userspace.specs.declared.Validated.{Validated}
 use Rattle.userspace.specs.declared.Validated.the-variants.{Ok as Fine, Refused}
+use Rattle.userspace.specs.declared.InitCheck.{InitCheck}
 use Rattle.userspace.specs.declared.KernelObject.{KernelObject}
 use Rattle.tables.specs.Table.{HANDLES, noObject}
 use Rattle.tables.specs.State.{State, object, thread}
 use Rattle.rules.specs.Rules.{isLive, isSupervisor}
 use Rattle.judging.specs.declared.Call.{Call}
-use Rattle.judging.specs.Calls.{Op, sup, unknown, opOf}
-use Rattle.judging.specs.Judge.{refused, done, _⇒_⨾_, live, supervisor, typeOf, wellFormed, Use, noHandle, taken, free, useOf, withHandle, rule, isUnknown, isPrivileged, judgeOp, judge, takenIn, plain}
+use Rattle.judging.specs.Calls.{Op, opOf}
+use Rattle.judging.specs.Judge.{refused, _⇒_⨾_, live, supervisor, wellFormed, Use, noHandle, taken, useOf, withHandle, rule, isUnknown, isPrivileged, judgeOp, judge, takenIn, plain}
 
 -- a callee's answer by its contract, and the branch that says what it is not
 pub via-no : {x y : Bool} → x ≡ y → not x ≡ true → y ≡ false
@@ -165,3 +164,9 @@ validated-plain {v} {w} e = go v ∙ ap answerOf e
     go : (v : Validated) → plain (answerOf v .code) ≡ answerOf v
     go Fine = refl
     go (Refused n) = refl
+
+-- the same validation of the same things
+pub validated-same :
+    (t : ℕ) {o o′ : KernelObject} {n n′ : ℕ} {b b′ : Bool} {m m′ : InitCheck} → o ≡ o′ → n ≡ n′ → b ≡ b′ → m ≡ m′ →
+    validated o n t b m ≡ validated o′ n′ t b′ m′
+validated-same t p e q r = rw (p, q, r, e)

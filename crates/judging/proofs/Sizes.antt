@@ -1,13 +1,10 @@
 -- The lengths of three tables, tested.
-use Prim.Native.Nat.{ℕ, _*_}
-use mathlib.Core.Path.{_≡_, refl, sym, ap, _∙_}
-use mathlib.Core.Bool.{Bool, true, false, cond, _&&_}
+use Prim.Native.Nat.{ℕ}
+use mathlib.Core.Path.{_≡_, ap}
+use mathlib.Core.Bool.{Bool, true, false, cond}
 use mathlib.Core.List.{List}
-use lib.Dec.{eqb}
-use lib.ListN.{length}
 use borrow.Author.Tests.{eqb-true}
 use Rattle.answer.specs.declared.Code.the-variants.{Value}
-use Rattle.answer.specs.declared.Answer.{Answer}
 use Rattle.domain_rules.proofs.All.{both-true}
 use Rattle.tables.specs.State.{stateOf}
 use Rattle.judging.specs.declared.Call.{Call}

@@ -238,6 +238,14 @@ fn number(v: Validated) -> u32
     }
 }
 
+// A type that was found below 16 is stored in a byte: the cast loses nothing.
+fn type_byte(n: u32) -> u8
+    requires { ⌜ n < 16 ⌝ }
+    ensures { λ r. ⌜ r ≡ n ⌝ }
+{
+    n as u8
+}
+
 fn validate_rule(objects: &[u64], threads: &[u32], slots: &[u32], c: Call) -> Answer
     requires { ⌜ Sized (now objects) (now threads) (now slots) × (c .b < 16) ⌝ }
     ensures { λ r. ⌜ r ≡ rule validate·op (stateOf (now (objects .entry)) (now (threads .entry)) (now (slots .entry))) c ⌝ }
@@ -245,7 +253,8 @@ fn validate_rule(objects: &[u64], threads: &[u32], slots: &[u32], c: Call) -> An
     let o = object_in(objects, c.a);
     let supervisor = is_supervisor(threads, c.caller);
     let mode = mode_of(c.c);
-    plain_answer(number(o.validate(c.b as u8, c.caller, supervisor, mode)))
+    let kind = type_byte(c.b);
+    plain_answer(number(o.validate(kind, c.caller, supervisor, mode)))
 }
 
 fn validate(objects: &[u64], threads: &[u32], slots: &[u32], c: Call) -> Answer
@@ -332,7 +341,6 @@ fn exit(c: Call) -> Answer
     }
     plain_answer(OK)
 }
-
 
 fn create_fields(c: Call) -> bool
     ensures { λ r. ⌜ r ≡ wellFormed (sup create) c ⌝ }

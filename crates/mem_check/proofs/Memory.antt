@@ -1,18 +1,18 @@
 -- What the memory check's definition means: OK exactly when every byte is covered, EPERM exactly when one is not, its value the first such address.
-use Prim.Native.Nat.{ℕ, zero, suc, _+_, _-_, _*_, _≤_, _<_}
+use Prim.Native.Nat.{ℕ, zero, suc, _+_, _*_, _≤_, _<_}
 use native.Mathlib.Decide.{decLt}
 use native.Mathlib.Nat.{not-suc-le-zero}
 use native.Mathlib.Omega.{arith}
 use mathlib.Core.Path.{_≡_, refl, sym, ap, _∙_}
-use mathlib.Core.Bool.{Bool, true, false, cond, _&&_, _||_, true≢false, false≢true}
+use mathlib.Core.Bool.{Bool, true, false, _&&_, true≢false, false≢true}
 use mathlib.Core.List.{List, []}
-use lib.Dec.{eqb, ltb, leb}
+use lib.Dec.{ltb, leb}
 use lib.ListN.{length, getD}
 use borrow.Author.Tests.{ltb-true, leb-true, lt-ltb, le-ltb, le-leb, lt-leb, ne-eqb}
 use Rattle.answer.specs.declared.Answer.{Answer}
-use Rattle.mem_domain.specs.Partition.{empty, endOf, isActive, holds}
+use Rattle.mem_domain.specs.Partition.{endOf, isActive, holds}
 use Rattle.mem_domain.specs.Domain.{slots as SLOTS, slotAt}
-use Rattle.mem_domain.specs.Scan.{anyTo, lowest}
+use Rattle.mem_domain.specs.Scan.{lowest}
 use Rattle.mem_domain.specs.declared.MemPartition.{MemPartition}
 use Rattle.mem_domain.proofs.Scan.{lowest-hit, any-at, any-none}
 use Rattle.tables.specs.Tabulate.{getD-tabulate-out}

@@ -3,7 +3,7 @@ use Prim.Native.Nat.{ℕ, zero, suc, _+_, _-_, _*_, _≤_, _<_}
 use native.Mathlib.Nat.{not-suc-le-zero}
 use native.Mathlib.Decide.{decLt}
 use native.Mathlib.Omega.{arith}
-use mathlib.Core.Path.{_≡_, refl, sym, ap, _∙_}
+use mathlib.Core.Path.{_≡_, refl, sym, _∙_}
 use mathlib.Core.Bool.{Bool, true, false, cond, true≢false}
 use mathlib.Core.List.{List}
 use Rattle.mem_domain.specs.Partition.{empty, endOf}
@@ -13,7 +13,7 @@ use Rattle.tables.specs.Tabulate.{getD-tabulate}
 use Rattle.tables.specs.Table.{partitionAt, partitionsAt}
 use Rattle.mem_check.specs.Memory.{gives, coversAt, isCovered, coveredRun}
 use Rattle.mem_check.specs.Windows.{covers, runIn, Run}
-use Rattle.mem_check.proofs.Memory.{Covers, slot-means, slot-when, covered-when, covered-not, run-on, run-off, run-empty, run-le}
+use Rattle.mem_check.proofs.Memory.{Covers, slot-means, slot-when, covered-when, covered-not, run-on, run-off, run-empty}
 
 -- ---- a slot
 

@@ -1,14 +1,11 @@
-use mathlib.Core.Path.{_≡_, refl, sym, ap, _∙_}
-use Prim.Native.Nat.{_+_, _-_, _≤_, _<_}
+use mathlib.Core.Path.{_≡_}
+use Prim.Native.Nat.{_+_, _-_, _≤_}
 use native.Mathlib.Omega.{arith}
 use Rattle.tables.specs.Table.{partitionsAt}
 use Rattle.mem_check.specs.Memory.{coveredRun}
 use Rattle.mem_check.proofs.Windows.{walk-start, walk-stop, walk-on, walk-all, walk-end}
 use Rattle.mem_check.proofs.covered.Statement.{statement}
 use Rattle.mem_check.proofs.covered.Tie as tie
-use Rattle.mem_check.proofs.covered.Reads as reads
-use Rattle.mem_check.proofs.covered.Lts as lts
-use Rattle.mem_check.proofs.run_at.Reads as run-at-reads
 
 abbrev Inv-loop : tie.InvT-loop
 Inv-loop slots d from len write done₀ done = (done ≤ len) × (coveredRun (partitionsAt slots d) write from len ≡ done + coveredRun (partitionsAt slots d) write (from + done) (len - done))

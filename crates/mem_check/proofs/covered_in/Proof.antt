@@ -1,14 +1,8 @@
-use mathlib.Core.Path.{_≡_, refl, sym, ap, _∙_}
-use native.Mathlib.Omega.{arith}
-use borrow.Author.Tests.{eq-eqb, ne-eqb, lt-ltb, le-ltb, le-leb, lt-leb}
-use Rattle.mem_check.specs.Memory.{memoryRule, reached, slotsIn, coveredRun}
+use mathlib.Core.Path.{sym}
 use Rattle.mem_check.proofs.Memory.{in-none, in-whole, run-off, none-covered}
 use borrow.Author.Needs.{needs}
 use Rattle.mem_check.proofs.covered_in.Statement.{statement}
 use Rattle.mem_check.proofs.covered_in.Tie as tie
-use Rattle.mem_check.proofs.covered_in.Reads as reads
-use Rattle.mem_check.proofs.covered_in.Lts as lts
-use Rattle.mem_check.proofs.covered.Reads as covered-reads
 
 -- src/lib.rt:89:27
 mul-if1 : tie.Need-mul-if1

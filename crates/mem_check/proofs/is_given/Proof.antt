@@ -1,9 +1,6 @@
-use mathlib.Core.Path.{_≡_, refl, sym, ap, _∙_}
 use Rattle.userspace.specs.Bit.{code-test}
 use Rattle.mem_check.proofs.is_given.Statement.{statement}
 use Rattle.mem_check.proofs.is_given.Tie as tie
-use Rattle.mem_check.proofs.is_given.Reads as reads
-use Rattle.mem_check.proofs.is_given.Lts as lts
 
 -- src/lib.rt:21:9
 returns : tie.Need-returns

@@ -1,14 +1,9 @@
-use mathlib.Core.Path.{_≡_, refl, sym, ap, _∙_}
-use native.Mathlib.Omega.{arith}
+use mathlib.Core.Path.{sym}
 use borrow.Author.Tests.{eq-eqb, ne-eqb, lt-ltb, le-ltb, le-leb, lt-leb}
-use Rattle.mem_check.specs.Memory.{memoryRule, reached, slotsIn, coveredRun}
-use Rattle.mem_check.proofs.Memory.{in-none, in-whole, run-off, none-covered}
+use Rattle.mem_check.specs.Memory.{memoryRule, reached}
 use borrow.Author.Needs.{needs}
 use Rattle.mem_check.proofs.memory_check.Statement.{statement}
 use Rattle.mem_check.proofs.memory_check.Tie as tie
-use Rattle.mem_check.proofs.memory_check.Reads as reads
-use Rattle.mem_check.proofs.memory_check.Lts as lts
-use Rattle.mem_check.proofs.covered_in.Reads as covered-in-reads
 
 -- src/lib.rt:106:9
 returns : tie.Need-returns

@@ -1,16 +1,9 @@
-use mathlib.Core.Path.{_≡_, refl, sym, ap, _∙_}
-use Prim.Native.Nat.{_-_, _≤_, _<_}
+use Prim.Native.Nat.{_-_, _≤_}
 use native.Mathlib.Nat.{not-suc-le-zero}
 use native.Mathlib.Omega.{arith}
-use Rattle.answer.specs.Tests.{via}
-use Rattle.tables.specs.Table.{partitionAt}
-use Rattle.mem_check.specs.Memory.{gives}
-use Rattle.mem_check.proofs.Windows.{slot-before, slot-behind, slot-barred, slot-run, NoneTo, scan-hit, scan-miss, scan-end}
+use Rattle.mem_check.proofs.Windows.{NoneTo, scan-hit, scan-miss, scan-end}
 use Rattle.mem_check.proofs.run_at.Statement.{statement}
 use Rattle.mem_check.proofs.run_at.Tie as tie
-use Rattle.mem_check.proofs.run_at.Reads as reads
-use Rattle.mem_check.proofs.run_at.Lts as lts
-use Rattle.mem_check.proofs.run_in.Reads as run-in-reads
 
 abbrev Inv-loop : tie.InvT-loop
 Inv-loop slots d x write first k₀ k = (k ≤ 16) × NoneTo slots d x write k

@@ -1,17 +1,10 @@
-use mathlib.Core.Path.{_≡_, refl, sym, ap, _∙_}
-use Prim.Native.Nat.{_-_, _≤_, _<_}
-use native.Mathlib.Nat.{not-suc-le-zero}
-use native.Mathlib.Omega.{arith}
 use Rattle.answer.specs.Tests.{via}
 use Rattle.tables.specs.Table.{partitionAt}
 use Rattle.mem_check.specs.Memory.{gives}
-use Rattle.mem_check.proofs.Windows.{slot-before, slot-behind, slot-barred, slot-run, NoneTo, scan-hit, scan-miss, scan-end}
+use Rattle.mem_check.proofs.Windows.{slot-before, slot-behind, slot-barred, slot-run}
 use borrow.Author.Needs.{needs}
 use Rattle.mem_check.proofs.run_in.Statement.{statement}
 use Rattle.mem_check.proofs.run_in.Tie as tie
-use Rattle.mem_check.proofs.run_in.Reads as reads
-use Rattle.mem_check.proofs.run_in.Lts as lts
-use Rattle.mem_check.proofs.is_given.Reads as is-given-reads
 
 -- src/lib.rt:32:13
 mul-i : tie.Need-mul-i

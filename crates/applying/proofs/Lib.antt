@@ -1,0 +1,5 @@
+pub mod Ops
+pub mod Tables
+pub mod Picture
+pub mod InRange
+pub mod Unique

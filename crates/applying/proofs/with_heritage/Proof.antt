@@ -1,0 +1,24 @@
+use mathlib.Core.Path.{_∙_}
+use Rattle.applying.proofs.Ops.{heir, no-heir}
+use borrow.Author.Needs.{needs}
+use Rattle.applying.proofs.with_heritage.Statement.{statement}
+use Rattle.applying.proofs.with_heritage.Tie as tie
+
+-- src/lib.rt:51:9
+has-perm-requires : tie.Need-has-perm-requires
+has-perm-requires c κs = search needs
+
+-- src/lib.rt:53:9
+with-bit-requires : tie.Need-with-bit-requires
+with-bit-requires c κs = search needs
+
+-- src/lib.rt:53:9
+returns : tie.Need-returns
+returns c = (c .with-bit .ensures) ∙ heir _ _ _ _ (c .before .before .before .has-perm .ensures) (c .before .if1 .taken)
+
+-- src/lib.rt:48:1
+returns-2 : tie.Need-returns-2
+returns-2 c = no-heir _ _ _ _ (c .before .before .has-perm .ensures) (c .if1 .left)
+
+pub with-heritage-spec : {M : Type 1} → statement M
+with-heritage-spec = tie.close (tie.spec has-perm-requires with-bit-requires returns returns-2)

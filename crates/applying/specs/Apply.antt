@@ -1,0 +1,71 @@
+-- What a change does to a table of numbers: record i is loaded, rewritten and stored, or each record is, one behind the other.
+use Prim.Native.Nat.{ℕ, zero, suc}
+use mathlib.Core.Bool.{cond}
+use mathlib.Core.List.{List}
+use lib.Dec.{eqb}
+use Rattle.mem_domain.specs.declared.MemPartition.{MemPartition}
+use Rattle.mem_domain.specs.declared.MemDomain.{MemDomain}
+use Rattle.mem_domain.specs.Domain.{slots as SLOTS, added, removed}
+use Rattle.userspace.specs.declared.KernelObject.{KernelObject}
+use Rattle.userspace.specs.Userspace.{THREADS}
+use Rattle.tables.specs.declared.Thread.{Thread}
+use Rattle.tables.specs.Table.{HANDLES, DOMAINS, objectAt, putObject, threadAt, putThread, partitionsAt, putTo}
+use Rattle.judging.specs.declared.Call.{Call}
+use Rattle.judging.specs.Calls.{opOf}
+use Rattle.judging.specs.Judge.{partitionOf}
+use Rattle.judging.specs.Change.{Change, none, one, each, objectChange, threadChange}
+
+-- ---- a table whose records are read by `load` and written by `put`
+
+module _ {A : Type 0} (load : List ℕ → ℕ → A) (put : List ℕ → ℕ → A → List ℕ) where
+  -- the first n records, each rewritten in turn
+  unfoldable pub eachTo : (A → A) → List ℕ → ℕ → List ℕ
+  eachTo f xs zero = xs
+  eachTo f xs (suc k) = put (eachTo f xs k) k (f (load (eachTo f xs k) k))
+
+  -- the table of n records after a change
+  unfoldable pub enactIn : ℕ → Change A → List ℕ → List ℕ
+  enactIn n none xs = xs
+  enactIn n (one i f) xs = put xs i (f (load xs i))
+  enactIn n (each f) xs = eachTo f xs n
+
+abbrev pub enactObjects : Change KernelObject → List ℕ → List ℕ
+enactObjects = enactIn objectAt putObject HANDLES
+
+abbrev pub enactThreads : Change Thread → List ℕ → List ℕ
+enactThreads = enactIn threadAt putThread THREADS
+
+-- a domain's sixteen slots
+abbrev pub putSlots : List ℕ → ℕ → List MemPartition → List ℕ
+putSlots xs d ps = putTo xs d ps SLOTS
+
+abbrev pub enactSlots : Change (List MemPartition) → List ℕ → List ℕ
+enactSlots = enactIn partitionsAt putSlots DOMAINS
+
+-- ---- one record, whichever it is: what the code computes of it
+
+-- the record after a change that reaches it
+abbrev pub rewritten : {A : Type 0} → Change A → A → A
+rewritten none x = x
+rewritten (one i f) x = f x
+rewritten (each f) x = f x
+
+unfoldable pub objectAfter : Call → KernelObject → KernelObject
+objectAfter c o = rewritten (objectChange (opOf (c .op)) c) o
+
+unfoldable pub threadAfter : Call → Thread → Thread
+threadAfter c r = rewritten (threadChange (opOf (c .op)) c) r
+
+-- op 27 adds, op 28 removes
+unfoldable pub domainAfter : Call → MemDomain → MemDomain
+domainAfter c m =
+    cond (eqb (c .op) 27) (added m (partitionOf c) .domain) (cond (eqb (c .op) 28) (removed m (c .b) (c .c) .domain) m)
+
+-- ---- which objects a change reaches: 0 none, 1 the one that field a names, 2 each
+abbrev pub scopeOf : {A : Type 0} → Change A → ℕ
+scopeOf none = 0
+scopeOf (one i f) = 1
+scopeOf (each f) = 2
+
+unfoldable pub objectScope : Call → ℕ
+objectScope c = scopeOf (objectChange (opOf (c .op)) c)
