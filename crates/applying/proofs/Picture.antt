@@ -51,31 +51,34 @@ map-tabulate zero f g = refl
 map-tabulate (suc n) f g = ap (λ l. f (g 0) ∷ l) (map-tabulate n f (λ k. g (suc k)))
 
 -- a table of n records: a good record that is stored is loaded, the others stay, what is loaded is good, and a store keeps the table's form
+record Laws {A : Type 0} (load : List ℕ → ℕ → A) (put : List ℕ → ℕ → A → List ℕ) (n : ℕ) (Good : A → Type 0) (Form : List ℕ → Type 0) : Type 0 where
+  same : (xs : List ℕ) (i : ℕ) (x : A) → Form xs → i < n → Good x → load (put xs i x) i ≡ x
+  other : (xs : List ℕ) (i j : ℕ) (x : A) → j ≢ i → load (put xs i x) j ≡ load xs j
+  good : (xs : List ℕ) (i : ℕ) → Good (load xs i)
+  form : (xs : List ℕ) (i : ℕ) (x : A) → Form xs → Good x → Form (put xs i x)
+
 module _
-    {A : Type 0} (load : List ℕ → ℕ → A) (put : List ℕ → ℕ → A → List ℕ) (n : ℕ) (z : A) (Good : A → Type 0) (Form : List ℕ → Type 0)
-    (same : (xs : List ℕ) (i : ℕ) (x : A) → Form xs → i < n → Good x → load (put xs i x) i ≡ x)
-    (other : (xs : List ℕ) (i j : ℕ) (x : A) → j ≢ i → load (put xs i x) j ≡ load xs j)
-    (good : (xs : List ℕ) (i : ℕ) → Good (load xs i))
-    (form : (xs : List ℕ) (i : ℕ) (x : A) → Form xs → Good x → Form (put xs i x))
+    {A : Type 0} {load : List ℕ → ℕ → A} {put : List ℕ → ℕ → A → List ℕ} {n : ℕ} {Good : A → Type 0} {Form : List ℕ → Type 0}
+    (laws : Laws load put n Good Form)
   where
     module _ (f : A → A) (keeps : (x : A) → Good x → Good (f x)) (xs : List ℕ) (fits : Form xs) where
-      one-picture : (i : ℕ) → i < n → tabulate n (load (put xs i (f (load xs i)))) ≡ set (tabulate n (load xs)) i (f (getD (tabulate n (load xs)) i z))
-      one-picture i h =
-          tabulate-set n (load xs) (load (put xs i (f (load xs i)))) i z (λ k g ne. other xs i k (f (load xs i)) ne)
+      one-picture : (z : A) (i : ℕ) → i < n → tabulate n (load (put xs i (f (load xs i)))) ≡ set (tabulate n (load xs)) i (f (getD (tabulate n (load xs)) i z))
+      one-picture z i h =
+          tabulate-set n (load xs) (load (put xs i (f (load xs i)))) i z (λ k g ne. laws .other xs i k (f (load xs i)) ne)
           ∙ ap (set (tabulate n (load xs)) i)
-          (same xs i (f (load xs i)) fits h (keeps (load xs i) (good xs i)) ∙ ap f (sym (getD-tabulate n (load xs) i z h)))
+          (laws .same xs i (f (load xs i)) fits h (keeps (load xs i) (laws .good xs i)) ∙ ap f (sym (getD-tabulate n (load xs) i z h)))
 
       each-form : (k : ℕ) → Form (eachTo load put f xs k)
       unfolding eachTo
       each-form zero = fits
       each-form (suc k) =
-          form (eachTo load put f xs k) k (f (load (eachTo load put f xs k) k)) (each-form k) (keeps _ (good (eachTo load put f xs k) k))
+          laws .form (eachTo load put f xs k) k (f (load (eachTo load put f xs k) k)) (each-form k) (keeps _ (laws .good (eachTo load put f xs k) k))
 
       -- after k turns: the records from k on are as they were, those before are rewritten
       each-ahead : (k j : ℕ) → k ≤ j → load (eachTo load put f xs k) j ≡ load xs j
       unfolding eachTo
       each-ahead zero j h = refl
-      each-ahead (suc k) j h = other (eachTo load put f xs k) k j (f (load (eachTo load put f xs k) k)) (λ e. omega arith) ∙ each-ahead k j (omega arith)
+      each-ahead (suc k) j h = laws .other (eachTo load put f xs k) k j (f (load (eachTo load put f xs k) k)) (λ e. omega arith) ∙ each-ahead k j (omega arith)
 
       each-done : (k j : ℕ) → k ≤ n → j < k → load (eachTo load put f xs k) j ≡ f (load xs j)
       unfolding eachTo
@@ -85,26 +88,26 @@ module _
           go : (j < k → load (eachTo load put f xs k) j ≡ f (load xs j)) → Dec (j ≡ k) → load (eachTo load put f xs (suc k)) j ≡ f (load xs j)
           go ih (yes e) =
               rw e
-              (same (eachTo load put f xs k) k (f (load (eachTo load put f xs k) k)) (each-form k) (omega arith) (keeps _ (good (eachTo load put f xs k) k))
+              (laws .same (eachTo load put f xs k) k (f (load (eachTo load put f xs k) k)) (each-form k) (omega arith) (keeps _ (laws .good (eachTo load put f xs k) k))
               ∙ ap f (each-ahead k k (omega arith)))
-          go ih (no ne) = other (eachTo load put f xs k) k j (f (load (eachTo load put f xs k) k)) ne ∙ ih (omega arith)
+          go ih (no ne) = laws .other (eachTo load put f xs k) k j (f (load (eachTo load put f xs k) k)) ne ∙ ih (omega arith)
 
       each-picture : tabulate n (load (eachTo load put f xs n)) ≡ map f (tabulate n (load xs))
       each-picture =
           tabulate-ext n (load (eachTo load put f xs n)) (λ k. f (load xs k)) (λ k h. each-done n k (omega arith) h) ∙ sym (map-tabulate n f (load xs))
 
     -- the picture of the table after is the picture before, changed
-    pub pictured : (ch : Change A) → Keeps Good ch → Within n ch → (xs : List ℕ) → Form xs → tabulate n (load (enactIn load put n ch xs)) ≡ enact z ch (tabulate n (load xs))
+    pictured : (z : A) (ch : Change A) → Keeps Good ch → Within n ch → (xs : List ℕ) → Form xs → tabulate n (load (enactIn load put n ch xs)) ≡ enact z ch (tabulate n (load xs))
     unfolding enactIn enact
-    pictured none k w xs h = refl
-    pictured (one i f) k w xs h = one-picture f k xs h i w
-    pictured (each f) k w xs h = each-picture f k xs h
+    pictured z none k w xs h = refl
+    pictured z (one i f) k w xs h = one-picture f k xs h z i w
+    pictured z (each f) k w xs h = each-picture f k xs h
 
     -- and the table keeps its form, whatever it names
-    pub formed : (ch : Change A) → Keeps Good ch → (xs : List ℕ) → Form xs → Form (enactIn load put n ch xs)
+    formed : (ch : Change A) → Keeps Good ch → (xs : List ℕ) → Form xs → Form (enactIn load put n ch xs)
     unfolding enactIn
     formed none k xs h = h
-    formed (one i f) k xs h = form xs i (f (load xs i)) h (k (load xs i) (good xs i))
+    formed (one i f) k xs h = laws .form xs i (f (load xs i)) h (k (load xs i) (laws .good xs i))
     formed (each f) k xs h = each-form f k xs h n
 
 -- ---- objects
@@ -191,17 +194,22 @@ objects-keep (sup add) c = tt
 objects-keep (sup remove) c = tt
 objects-keep unknown c = tt
 
+object-laws : Laws objectAt putObject HANDLES Bytes ObjectTable
+object-laws =
+    record {
+      same = λ xs h o t l b. object-same xs h o (omega (arith, t .size)) b;
+      other = λ xs h k o ne. object-other xs k h o (λ e. ne (sym e));
+      good = loaded-bytes;
+      form = object-form;
+    }
+
 module _ (ch : Change KernelObject) (keeps : Keeps Bytes ch) (xs : List ℕ) (form : ObjectTable xs) where
   pub objects-picture : Within HANDLES ch → objectsOf (enactObjects ch xs) ≡ enact noObject ch (objectsOf xs)
   unfolding objectsOf
-  objects-picture w =
-      pictured objectAt putObject HANDLES noObject Bytes ObjectTable (λ ys h o t l b. object-same ys h o (omega (arith, t .size)) b)
-      (λ ys h k o ne. object-other ys k h o (λ e. ne (sym e))) loaded-bytes object-form ch keeps w xs form
+  objects-picture w = pictured object-laws noObject ch keeps w xs form
 
   pub objects-form : ObjectTable (enactObjects ch xs)
-  objects-form =
-      formed objectAt putObject HANDLES noObject Bytes ObjectTable (λ ys h o t l b. object-same ys h o (omega (arith, t .size)) b)
-      (λ ys h k o ne. object-other ys k h o (λ e. ne (sym e))) loaded-bytes object-form ch keeps xs form
+  objects-form = formed object-laws ch keeps xs form
 
 -- ---- threads: any record will do
 
@@ -216,17 +224,22 @@ any-keeps none = tt
 any-keeps (one i f) = λ x g. tt
 any-keeps (each f) = λ x g. tt
 
+thread-laws : Laws threadAt putThread THREADS Any ThreadTable
+thread-laws =
+    record {
+      same = λ xs t r e l g. thread-same xs t r (omega arith);
+      other = λ xs t k r ne. thread-other xs k t r (λ e. ne (sym e));
+      good = λ xs t. tt;
+      form = λ xs t r e g. thread-length xs t r ∙ e;
+    }
+
 module _ (ch : Change Thread) (xs : List ℕ) (form : length xs ≡ 3 * THREADS) where
   pub threads-picture : Within THREADS ch → threadsOf (enactThreads ch xs) ≡ enact nobody ch (threadsOf xs)
   unfolding threadsOf
-  threads-picture w =
-      pictured threadAt putThread THREADS nobody Any ThreadTable (λ ys t r e l g. thread-same ys t r (omega arith))
-      (λ ys t k r ne. thread-other ys k t r (λ e. ne (sym e))) (λ ys t. tt) (λ ys t r e g. thread-length ys t r ∙ e) ch (any-keeps ch) w xs form
+  threads-picture w = pictured thread-laws nobody ch (any-keeps ch) w xs form
 
   pub threads-length : length (enactThreads ch xs) ≡ 3 * THREADS
-  threads-length =
-      formed threadAt putThread THREADS nobody Any ThreadTable (λ ys t r e l g. thread-same ys t r (omega arith))
-      (λ ys t k r ne. thread-other ys k t r (λ e. ne (sym e))) (λ ys t. tt) (λ ys t r e g. thread-length ys t r ∙ e) ch (any-keeps ch) xs form
+  threads-length = formed thread-laws ch (any-keeps ch) xs form
 
 -- ---- domains: of sixteen slots
 
@@ -282,17 +295,22 @@ domains-keep (sup add) c = added-sixteen (partitionOf c)
 domains-keep (sup remove) c = removed-sixteen (c .b) (c .c)
 domains-keep unknown c = tt
 
+slot-laws : Laws partitionsAt putSlots DOMAINS Sixteen SlotTable
+slot-laws =
+    record {
+      same = λ xs d ps e l g. domain-same xs d ps (omega arith) g;
+      other = λ xs d k ps ne. domain-other xs d ps k ne;
+      good = loaded-sixteen;
+      form = λ xs d ps e g. put-length xs d ps SLOTS ∙ e;
+    }
+
 module _ (ch : Change (List MemPartition)) (keeps : Keeps Sixteen ch) (xs : List ℕ) (form : length xs ≡ 3 * (SLOTS * DOMAINS)) where
   pub slots-picture : Within DOMAINS ch → domainsOf (enactSlots ch xs) ≡ enact [] ch (domainsOf xs)
   unfolding domainsOf
-  slots-picture w =
-      pictured partitionsAt putSlots DOMAINS [] Sixteen SlotTable (λ ys d ps e l g. domain-same ys d ps (omega arith) g)
-      (λ ys d k ps ne. domain-other ys d ps k ne) loaded-sixteen (λ ys d ps e g. put-length ys d ps SLOTS ∙ e) ch keeps w xs form
+  slots-picture w = pictured slot-laws [] ch keeps w xs form
 
   pub slots-length : length (enactSlots ch xs) ≡ 3 * (SLOTS * DOMAINS)
-  slots-length =
-      formed partitionsAt putSlots DOMAINS [] Sixteen SlotTable (λ ys d ps e l g. domain-same ys d ps (omega arith) g)
-      (λ ys d k ps ne. domain-other ys d ps k ne) loaded-sixteen (λ ys d ps e g. put-length ys d ps SLOTS ∙ e) ch keeps xs form
+  slots-length = formed slot-laws ch keeps xs form
 
 -- ---- the state
 

@@ -9,7 +9,7 @@ ghost use lib.Dec.{eqb};
 ghost use Rattle.userspace.specs.Userspace.{granted, revoked, recycled};
 ghost use Rattle.tables.specs.Table.{HANDLES as HANDLES·spec, nobody as nobody·spec, objectAt, putObject, threadAt, putThread, domainAt, putDomain};
 ghost use Rattle.judging.specs.Calls.{opOf};
-ghost use Rattle.judging.specs.Change.{inherited, born, objectChange, threadChange, domainChange};
+ghost use Rattle.judging.specs.Change.{inherited, objectChange, threadChange, domainChange};
 ghost use Rattle.applying.specs.Apply.{eachTo, enactObjects, enactThreads, enactSlots, objectAfter, threadAfter, domainAfter, objectScope};
 use judging::Call;
 use mem_domain::MemDomain;

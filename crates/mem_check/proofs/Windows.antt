@@ -142,5 +142,5 @@ module _ (ps : List MemPartition) (write : Bool) where
       let b : len - 0 ≡ len = omega arith in
       rw (a, b) (omega arith)
 
-  pub walk-end : (from len done r : ℕ) → done ≤ len → len ≤ done → r ≡ done + coveredRun ps write (from + done) (len - done) → len ≡ r
-  walk-end from len done r i l k = omega (arith, run-empty ps write (from + done) (len - done) (omega arith))
+  pub walk-end : (from len done r : ℕ) → len ≤ done → r ≡ done + coveredRun ps write (from + done) (len - done) → done ≡ r
+  walk-end from len done r l k = omega (arith, run-empty ps write (from + done) (len - done) (omega arith))

@@ -78,7 +78,7 @@ fn covered(slots: &[u32], d: u32, from: u32, len: u32, write: bool) -> u32
         }
         done += n;
     }
-    len
+    done
 }
 
 // A domain that the table does not hold whole covers nothing.

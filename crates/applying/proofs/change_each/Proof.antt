@@ -14,31 +14,24 @@ Inv-loop objects₀ c h₀ objects h = (h ≤ 256) × (objects ≡ eachTo object
 abbrev μ-loop : tie.MeasureT-loop
 μ-loop objects₀ c h₀ objects h = 256 - h
 
--- src/lib.rt:131:5
 loop-holds : tie.Need-loop-holds Inv-loop μ-loop
 loop-holds c = (omega arith, each-none _ _ _ _, refl)
 
--- src/lib.rt:132:9
 change-object-requires : tie.Need-change-object-requires Inv-loop μ-loop
 change-object-requires c κs = (c .before .before .before .before .pre)
 
--- src/lib.rt:133:9
 add-h : tie.Need-add-h Inv-loop μ-loop
 add-h c = omega arith
 
--- src/lib.rt:131:5
 loop-less : tie.Need-loop-less Inv-loop μ-loop
 loop-less c = omega arith
 
--- src/lib.rt:131:5
 loop-again : tie.Need-loop-again Inv-loop μ-loop
 loop-again c = (omega arith, (c .before .before .change-object .ensures) ∙ ap (λ xs. putObject xs (c .before .before .before .before .before .loop .h) (objectAfter (c .before .before .before .before .before .before .before .args .c) (objectAt xs (c .before .before .before .before .before .loop .h)))) (c .before .before .before .before .before .loop .inv .1) ∙ each-more objectAt putObject (c .before .before .before .before .before .before .before .args .objects .now) (objectAfter (c .before .before .before .before .before .before .before .args .c)) (c .before .before .before .before .before .loop .h), omega arith)
 
--- src/lib.rt:126:1
 same-length : tie.Need-same-length Inv-loop μ-loop
 same-length c = omega arith
 
--- src/lib.rt:126:1
 returns : tie.Need-returns Inv-loop μ-loop
 returns c = let e : (c .before .loop .h) ≡ 256 = omega arith in rw (← e) (c .before .loop .inv .1)
 

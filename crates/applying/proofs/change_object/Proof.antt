@@ -2,23 +2,18 @@ use borrow.Author.Needs.{needs}
 use Rattle.applying.proofs.change_object.Statement.{statement}
 use Rattle.applying.proofs.change_object.Tie as tie
 
--- src/lib.rt:121:9
 load-object-requires : tie.Need-load-object-requires
 load-object-requires c κs = search needs
 
--- src/lib.rt:122:9
 object-after-requires : tie.Need-object-after-requires
 object-after-requires c κs = (c .before .before .before .pre)
 
--- src/lib.rt:123:5
 store-object-requires : tie.Need-store-object-requires
 store-object-requires c κs = search needs
 
--- src/lib.rt:117:1
 same-length : tie.Need-same-length
 same-length c = search needs
 
--- src/lib.rt:117:1
 returns : tie.Need-returns
 returns c = rw (← (c .before .before .before .before .before .load-object .ensures), ← (c .before .before .before .before .object-after .ensures)) (c .before .before .store-object .ensures)
 

@@ -4,47 +4,36 @@ use borrow.Author.Needs.{needs}
 use Rattle.applying.proofs.change_objects.Statement.{statement}
 use Rattle.applying.proofs.change_objects.Tie as tie
 
--- src/lib.rt:142:9
 grant-object-requires : tie.Need-grant-object-requires
 grant-object-requires c κs = search needs
 
--- src/lib.rt:143:9
 same-length : tie.Need-same-length
 same-length c = search needs
 
--- src/lib.rt:143:9
 returns : tie.Need-returns
 returns c = (c .before .before .grant-object .ensures) ∙ object-granted _ _ (c .before .before .before .before .if1 .taken)
 
--- src/lib.rt:145:9
 object-scope-requires : tie.Need-object-scope-requires
 object-scope-requires c κs = search needs
 
--- src/lib.rt:147:9
 change-object-requires : tie.Need-change-object-requires
 change-object-requires c κs = search needs
 
--- src/lib.rt:149:9
 change-each-requires : tie.Need-change-each-requires
 change-each-requires c κs = search needs
 
--- src/lib.rt:138:1
 same-length-2 : tie.Need-same-length-2
 same-length-2 c = search needs
 
--- src/lib.rt:138:1
 returns-2 : tie.Need-returns-2
 returns-2 c = (c .before .before .change-object .ensures) ∙ object-one _ _ (sym (c .before .before .before .before .before .object-scope .ensures) ∙ (c .before .before .before .before .if2 .taken))
 
--- src/lib.rt:138:1
 same-length-3 : tie.Need-same-length-3
 same-length-3 c = search needs
 
--- src/lib.rt:138:1
 returns-3 : tie.Need-returns-3
 returns-3 c = (c .before .before .change-each .ensures) ∙ object-each _ _ (sym (c .before .before .before .before .before .before .object-scope .ensures) ∙ (c .before .before .before .before .if3 .taken))
 
--- src/lib.rt:138:1
 returns-4 : tie.Need-returns-4
 returns-4 c = object-none _ _ (λ e. (c .before .if2 .left) ((c .before .before .object-scope .ensures) ∙ e)) (λ e. (c .if3 .left) ((c .before .before .object-scope .ensures) ∙ e))
 

@@ -5,31 +5,24 @@ use borrow.Author.Needs.{needs}
 use Rattle.applying.proofs.change_slots.Statement.{statement}
 use Rattle.applying.proofs.change_slots.Tie as tie
 
--- src/lib.rt:242:15
 change-domain-requires : tie.Need-change-domain-requires
 change-domain-requires c κs = search needs
 
--- src/lib.rt:243:15
 change-domain-requires-2 : tie.Need-change-domain-requires-2
 change-domain-requires-2 c κs = search needs
 
--- src/lib.rt:237:1
 same-length : tie.Need-same-length
 same-length c = search needs
 
--- src/lib.rt:237:1
 returns : tie.Need-returns
 returns c = (c .before .before .change-domain .ensures) ∙ domain-add _ _ (c .before .before .before .before .match .keys1)
 
--- src/lib.rt:237:1
 same-length-2 : tie.Need-same-length-2
 same-length-2 c = search needs
 
--- src/lib.rt:237:1
 returns-2 : tie.Need-returns-2
 returns-2 c = (c .before .before .change-domain2 .ensures) ∙ domain-remove _ _ (c .before .before .before .before .match .keys2)
 
--- src/lib.rt:237:1
 returns-3 : tie.Need-returns-3
 returns-3 c = domain-none _ _ (no-domain _ _ (c .match .rest .0 .1) (c .match .rest .1))
 

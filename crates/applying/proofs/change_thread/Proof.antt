@@ -2,23 +2,18 @@ use borrow.Author.Needs.{needs}
 use Rattle.applying.proofs.change_thread.Statement.{statement}
 use Rattle.applying.proofs.change_thread.Tie as tie
 
--- src/lib.rt:189:9
 load-thread-requires : tie.Need-load-thread-requires
 load-thread-requires c κs = search needs
 
--- src/lib.rt:190:9
 thread-after-requires : tie.Need-thread-after-requires
 thread-after-requires c κs = search needs
 
--- src/lib.rt:191:5
 store-thread-requires : tie.Need-store-thread-requires
 store-thread-requires c κs = search needs
 
--- src/lib.rt:186:1
 same-length : tie.Need-same-length
 same-length c = search needs
 
--- src/lib.rt:186:1
 returns : tie.Need-returns
 returns c = rw (← (c .before .before .before .before .before .load-thread .ensures), ← (c .before .before .before .before .thread-after .ensures)) (c .before .before .store-thread .ensures)
 

@@ -8,59 +8,46 @@ use borrow.Author.Needs.{needs}
 use Rattle.applying.proofs.change_threads.Statement.{statement}
 use Rattle.applying.proofs.change_threads.Tie as tie
 
--- src/lib.rt:200:14
 change-thread-requires : tie.Need-change-thread-requires
 change-thread-requires c κs = search needs
 
--- src/lib.rt:201:15
 change-thread-requires-2 : tie.Need-change-thread-requires-2
 change-thread-requires-2 c κs = search needs
 
--- src/lib.rt:202:15
 change-thread-requires-3 : tie.Need-change-thread-requires-3
 change-thread-requires-3 c κs = search needs
 
--- src/lib.rt:203:15
 change-thread-requires-4 : tie.Need-change-thread-requires-4
 change-thread-requires-4 c κs = search needs
 
--- src/lib.rt:195:1
 same-length : tie.Need-same-length
 same-length c = search needs
 
--- src/lib.rt:195:1
 returns : tie.Need-returns
 unfolding opOf threadChange
 returns c = (c .before .before .change-thread .ensures) ∙ thread-one _ _ _ (rw (c .before .before .before .before .match .keys1) refl)
 
--- src/lib.rt:195:1
 same-length-2 : tie.Need-same-length-2
 same-length-2 c = search needs
 
--- src/lib.rt:195:1
 returns-2 : tie.Need-returns-2
 unfolding opOf threadChange
 returns-2 c = (c .before .before .change-thread2 .ensures) ∙ thread-one _ _ _ (rw (c .before .before .before .before .match .keys2) refl)
 
--- src/lib.rt:195:1
 same-length-3 : tie.Need-same-length-3
 same-length-3 c = search needs
 
--- src/lib.rt:195:1
 returns-3 : tie.Need-returns-3
 unfolding opOf threadChange
 returns-3 c = (c .before .before .change-thread3 .ensures) ∙ thread-one _ _ _ (rw (c .before .before .before .before .match .keys3) refl)
 
--- src/lib.rt:195:1
 same-length-4 : tie.Need-same-length-4
 same-length-4 c = search needs
 
--- src/lib.rt:195:1
 returns-4 : tie.Need-returns-4
 unfolding opOf threadChange
 returns-4 c = (c .before .before .change-thread4 .ensures) ∙ thread-one _ _ _ (rw (c .before .before .before .before .match .keys4) refl)
 
--- src/lib.rt:195:1
 returns-5 : tie.Need-returns-5
 returns-5 c = thread-none _ _ (no-thread _ _ (λ e. omega arith) (λ e. omega arith) (λ e. omega arith) (λ e. omega arith))
 

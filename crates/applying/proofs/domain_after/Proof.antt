@@ -5,25 +5,20 @@ use borrow.Author.Needs.{needs}
 use Rattle.applying.proofs.domain_after.Statement.{statement}
 use Rattle.applying.proofs.domain_after.Tie as tie
 
--- src/lib.rt:198:13
 add-partition-requires : tie.Need-add-partition-requires
 add-partition-requires c κs = search needs
 
--- src/lib.rt:199:9
 returns : tie.Need-returns
 unfolding domainAfter
 returns c = rw (eq-eqb _ _ (c .before .before .if1 .taken)) (ap (λ r. r .domain) (c .before .add-partition .ensures))
 
--- src/lib.rt:202:13
 remove-partition-requires : tie.Need-remove-partition-requires
 remove-partition-requires c κs = search needs
 
--- src/lib.rt:203:9
 returns-2 : tie.Need-returns-2
 unfolding domainAfter
 returns-2 c = rw (ne-eqb _ _ (c .before .before .before .before .if1 .left), eq-eqb _ _ (c .before .before .if2 .taken)) (ap (λ r. r .domain) (c .before .remove-partition .ensures))
 
--- src/lib.rt:189:1
 returns-3 : tie.Need-returns-3
 unfolding domainAfter
 returns-3 c = rw (ne-eqb _ _ (c .before .before .if1 .left), ne-eqb _ _ (c .if2 .left))

@@ -3,11 +3,9 @@ use borrow.Author.Needs.{needs}
 use Rattle.applying.proofs.recycled_for.Statement.{statement}
 use Rattle.applying.proofs.recycled_for.Tie as tie
 
--- src/lib.rt:44:9
 recycle-requires : tie.Need-recycle-requires
 recycle-requires c κs = search needs
 
--- src/lib.rt:41:1
 returns : tie.Need-returns
 returns c = ap (λ r. r .object) (c .before .recycle .ensures)
 

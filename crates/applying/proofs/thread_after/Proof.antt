@@ -8,39 +8,31 @@ use borrow.Author.Needs.{needs}
 use Rattle.applying.proofs.thread_after.Statement.{statement}
 use Rattle.applying.proofs.thread_after.Tie as tie
 
--- src/lib.rt:170:14
 nobody-requires : tie.Need-nobody-requires
 nobody-requires c κs = search needs
 
--- src/lib.rt:172:19
 role-of-requires : tie.Need-role-of-requires
 role-of-requires c κs = search needs
 
--- src/lib.rt:176:15
 nobody-requires-2 : tie.Need-nobody-requires-2
 nobody-requires-2 c κs = search needs
 
--- src/lib.rt:165:1
 returns : tie.Need-returns
 unfolding threadAfter opOf threadChange
 returns c = rw (c .before .match .keys1) (c .nobody .ensures)
 
--- src/lib.rt:165:1
 returns-2 : tie.Need-returns-2
 unfolding threadAfter opOf threadChange
 returns-2 c = rw ((c .before .match .keys2), (c .role-of .ensures))
 
--- src/lib.rt:165:1
 returns-3 : tie.Need-returns-3
 unfolding threadAfter opOf threadChange
 returns-3 c = rw (c .before .match .keys3) (c .nobody2 .ensures)
 
--- src/lib.rt:165:1
 returns-4 : tie.Need-returns-4
 unfolding threadAfter opOf threadChange
 returns-4 c = rw (c .match .keys4)
 
--- src/lib.rt:165:1
 returns-5 : tie.Need-returns-5
 unfolding threadAfter
 returns-5 c = sym (ap (λ ch. rewritten ch (c .before .args .r)) (no-thread (c .before .args .c .op) (c .before .args .c) (λ e. omega arith) (λ e. omega arith) (λ e. omega arith) (λ e. omega arith)))

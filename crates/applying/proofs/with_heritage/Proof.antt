@@ -4,19 +4,15 @@ use borrow.Author.Needs.{needs}
 use Rattle.applying.proofs.with_heritage.Statement.{statement}
 use Rattle.applying.proofs.with_heritage.Tie as tie
 
--- src/lib.rt:51:9
 has-perm-requires : tie.Need-has-perm-requires
 has-perm-requires c κs = search needs
 
--- src/lib.rt:53:9
 with-bit-requires : tie.Need-with-bit-requires
 with-bit-requires c κs = search needs
 
--- src/lib.rt:53:9
 returns : tie.Need-returns
 returns c = (c .with-bit .ensures) ∙ heir _ _ _ _ (c .before .before .before .has-perm .ensures) (c .before .if1 .taken)
 
--- src/lib.rt:48:1
 returns-2 : tie.Need-returns-2
 returns-2 c = no-heir _ _ _ _ (c .before .before .has-perm .ensures) (c .if1 .left)
 

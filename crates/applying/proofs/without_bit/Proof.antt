@@ -3,11 +3,9 @@ use borrow.Author.Needs.{needs}
 use Rattle.applying.proofs.without_bit.Statement.{statement}
 use Rattle.applying.proofs.without_bit.Tie as tie
 
--- src/lib.rt:37:9
 revoke-access-requires : tie.Need-revoke-access-requires
 revoke-access-requires c κs = search needs
 
--- src/lib.rt:34:1
 returns : tie.Need-returns
 returns c = ap (λ r. r .object) (c .before .revoke-access .ensures)
 

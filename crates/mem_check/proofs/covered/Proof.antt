@@ -13,45 +13,35 @@ Inv-loop slots d from len write done₀ done = (done ≤ len) × (coveredRun (pa
 abbrev μ-loop : tie.MeasureT-loop
 μ-loop slots d from len write done₀ done = len - done
 
--- src/lib.rt:71:5
 loop-holds : tie.Need-loop-holds Inv-loop μ-loop
 loop-holds c = (omega arith, walk-start _ _ _ _)
 
--- src/lib.rt:72:34
 add-run-at : tie.Need-add-run-at Inv-loop μ-loop
 add-run-at c = omega arith
 
--- src/lib.rt:72:13
 run-at-requires : tie.Need-run-at-requires Inv-loop μ-loop
 run-at-requires c κs = omega arith
 
--- src/lib.rt:74:13
 returns : tie.Need-returns Inv-loop μ-loop
 returns c = walk-stop _ _ _ _ _ _ _ (c .before .before .before .loop .inv .0) (c .before .before .before .loop .inv .1) (c .before .run-at .ensures) (c .if1 .taken)
 
--- src/lib.rt:76:12
 sub-if2 : tie.Need-sub-if2 Inv-loop μ-loop
 sub-if2 c = omega arith
 
--- src/lib.rt:77:13
 returns-2 : tie.Need-returns-2 Inv-loop μ-loop
 returns-2 c = walk-all _ _ _ _ _ _ _ (c .before .before .before .before .loop .inv .0) (c .before .before .before .before .loop .inv .1) (c .before .before .run-at .ensures) (c .if2 .taken)
 
--- src/lib.rt:79:9
 add-done : tie.Need-add-done Inv-loop μ-loop
 add-done c = omega arith
 
--- src/lib.rt:71:5
 loop-less : tie.Need-loop-less Inv-loop μ-loop
 loop-less c = omega arith
 
--- src/lib.rt:71:5
 loop-again : tie.Need-loop-again Inv-loop μ-loop
 loop-again c = (omega arith, walk-on _ _ _ _ _ _ _ (c .before .before .before .before .loop .inv .0) (c .before .before .before .before .loop .inv .1) (c .before .before .run-at .ensures) _ (omega arith) (omega arith))
 
--- src/lib.rt:66:1
 returns-3 : tie.Need-returns-3 Inv-loop μ-loop
-returns-3 c = walk-end _ _ _ _ _ _ (c .before .loop .inv .0) (c .loop-test .left) (c .before .loop .inv .1)
+returns-3 c = walk-end _ _ _ _ _ _ (omega arith) (c .before .loop .inv .1)
 
 pub covered-spec : {M : Type 1} → statement M
 covered-spec =

@@ -2,11 +2,9 @@ use Rattle.userspace.specs.Bit.{code-test}
 use Rattle.mem_check.proofs.is_given.Statement.{statement}
 use Rattle.mem_check.proofs.is_given.Tie as tie
 
--- src/lib.rt:21:9
 returns : tie.Need-returns
 returns c = rw (c .if1 .taken) (code-test _ 1)
 
--- src/lib.rt:17:1
 returns-2 : tie.Need-returns-2
 returns-2 c = rw (c .if1 .left) (code-test _ 0)
 

@@ -5,39 +5,31 @@ use borrow.Author.Needs.{needs}
 use Rattle.mem_check.proofs.memory_check.Statement.{statement}
 use Rattle.mem_check.proofs.memory_check.Tie as tie
 
--- src/lib.rt:106:9
 returns : tie.Need-returns
 unfolding memoryRule reached
 returns c = simp (eq-eqb _ _ (c .if1 .taken))
 
--- src/lib.rt:111:15
 add-if2 : tie.Need-add-if2
 add-if2 c = search needs
 
--- src/lib.rt:112:9
 returns-2 : tie.Need-returns-2
 unfolding memoryRule reached
 returns-2 c = simp (ne-eqb _ _ (c .before .if1 .left), lt-ltb _ _ (c .if2 .taken))
 
--- src/lib.rt:118:9
 returns-3 : tie.Need-returns-3
 unfolding memoryRule reached
 returns-3 c = simp (ne-eqb _ _ (c .before .before .if1 .left), le-ltb _ _ (c .before .if2 .left), (c .if3 .taken))
 
--- src/lib.rt:123:9
 covered-in-requires : tie.Need-covered-in-requires
 covered-in-requires c κs = search needs
 
--- src/lib.rt:125:9
 returns-4 : tie.Need-returns-4
 unfolding memoryRule reached
 returns-4 c = simp (ne-eqb _ _ (c .before .before .before .before .if1 .left), le-ltb _ _ (c .before .before .before .if2 .left), (c .before .before .if3 .left), sym (c .before .covered-in .ensures), le-leb _ _ (c .if4 .taken))
 
--- src/lib.rt:132:16
 add-t12 : tie.Need-add-t12
 add-t12 c = search needs
 
--- src/lib.rt:95:1
 returns-5 : tie.Need-returns-5
 unfolding memoryRule reached
 returns-5 c = simp (ne-eqb _ _ (c .before .before .before .before .if1 .left), le-ltb _ _ (c .before .before .before .if2 .left), (c .before .before .if3 .left), sym (c .before .covered-in .ensures), lt-leb _ _ (c .if4 .left))

@@ -11,39 +11,30 @@ Inv-loop slots d x write first k₀ k = (k ≤ 16) × NoneTo slots d x write k
 abbrev μ-loop : tie.MeasureT-loop
 μ-loop slots d x write first k₀ k = 16 - k
 
--- src/lib.rt:52:17
 mul-first : tie.Need-mul-first Inv-loop μ-loop
 mul-first c = omega arith
 
--- src/lib.rt:54:5
 loop-holds : tie.Need-loop-holds Inv-loop μ-loop
 loop-holds c = (omega arith, λ j h. absurd (not-suc-le-zero h))
 
--- src/lib.rt:55:31
 add-run-in : tie.Need-add-run-in Inv-loop μ-loop
 add-run-in c = omega arith
 
--- src/lib.rt:55:13
 run-in-requires : tie.Need-run-in-requires Inv-loop μ-loop
 run-in-requires c κs = omega arith
 
--- src/lib.rt:57:13
 returns : tie.Need-returns Inv-loop μ-loop
 returns c = scan-hit _ _ _ _ _ _ (omega arith) (c .before .run-in .ensures) (c .if1 .taken)
 
--- src/lib.rt:59:9
 add-k : tie.Need-add-k Inv-loop μ-loop
 add-k c = omega arith
 
--- src/lib.rt:54:5
 loop-less : tie.Need-loop-less Inv-loop μ-loop
 loop-less c = omega arith
 
--- src/lib.rt:54:5
 loop-again : tie.Need-loop-again Inv-loop μ-loop
 loop-again c = (omega arith, scan-miss _ _ _ _ _ _ (omega arith) (c .before .run-in .ensures) (c .if1 .left) (c .before .before .before .loop .inv .1))
 
--- src/lib.rt:48:1
 returns-2 : tie.Need-returns-2 Inv-loop μ-loop
 returns-2 c = scan-end _ _ _ _ _ (omega arith) (c .before .loop .inv .1)
 
