@@ -3,16 +3,16 @@ use Prim.Native.Nat.{ℕ}
 use native.Mathlib.Decide.{ℕ-discrete}
 use mathlib.Core.Path.{_≡_, refl, sym, ap, _∙_}
 use mathlib.Core.Logic.{_≢_}
-use mathlib.Core.Bool.{Bool, true, false, true≢false, false≢true}
-use mathlib.Core.List.{List, [], _∷_, _++_}
+use mathlib.Core.Bool.{Bool, true, false, false≢true}
+use mathlib.Core.List.{List, [], _∷_}
 use Rattle.tables.specs.State.{State}
 use Rattle.rules.specs.Rules.{Keeps}
 use Rattle.judging.specs.declared.Call.{Call}
-use Rattle.judging.specs.Judge.{supervisor, mayUse, judge}
+use Rattle.judging.specs.Judge.{supervisor, judge}
 use Rattle.judging.specs.Change.{after}
 use Rattle.call_laws.proofs.Keeps.{keeps-after}
 use Rattle.call_laws.proofs.Operations.{grant-ok-means}
-use Rattle.call_laws.proofs.Changes.{BitIs, OneObject, Ended, after-refused}
+use Rattle.call_laws.proofs.Changes.{after-refused}
 use Rattle.isolation.specs.View.{bitAt}
 use Rattle.isolation.specs.Trace.{run, GainBy, by-supervisor, by-grant, GainIn}
 use Rattle.isolation.proofs.Step.{Step, refuses, validates, checks, grants, releases, exits, step}

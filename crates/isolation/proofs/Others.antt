@@ -1,22 +1,21 @@
 -- Another unprivileged thread's call leaves t's view as it was, but for an accepted grant to t and for the other's exit; and what these two change of it.
 use Prim.Native.Nat.{ℕ, _<_}
 use native.Mathlib.Decide.{ℕ-discrete}
-use mathlib.Core.Path.{_≡_, refl, sym, ap, _∙_}
-use mathlib.Core.Logic.{_≢_, inl, inr}
+use mathlib.Core.Path.{_≡_, sym, ap}
+use mathlib.Core.Logic.{_≢_, inr}
 use mathlib.Core.Bool.{Bool, true, false}
-use Rattle.userspace.specs.Bit.{isSet}
-use Rattle.userspace.specs.Userspace.{THREADS, INITIALISED, initialised}
-use Rattle.tables.specs.State.{State, object, thread, domain}
+use Rattle.userspace.specs.Userspace.{THREADS}
+use Rattle.tables.specs.State.{State, thread, domain}
 use Rattle.rules.specs.Rules.{isLive, Keeps}
 use Rattle.judging.specs.declared.Call.{Call}
 use Rattle.judging.specs.Calls.{grant, exit, opOf}
-use Rattle.judging.specs.Judge.{supervisor, mayUse, judge}
+use Rattle.judging.specs.Judge.{supervisor, judge}
 use Rattle.judging.specs.Change.{after}
 use Rattle.call_laws.proofs.Conditions.{access-iff}
 use Rattle.call_laws.proofs.Operations.{grant-ok-means}
 use Rattle.call_laws.proofs.Changes.{BitIs, OneObject, Ended, grant-does, exit-does}
-use Rattle.isolation.specs.View.{bitAt, SameBits, Agree, GivenOf, GoneOf}
-use Rattle.isolation.proofs.Step.{Step, refuses, validates, checks, grants, releases, exits, step, Fixed, same-threads, one-fixed, ended-fixed}
+use Rattle.isolation.specs.View.{bitAt, Agree, GivenOf, GoneOf}
+use Rattle.isolation.proofs.Step.{Step, refuses, validates, checks, grants, releases, exits, step, same-threads, one-fixed, ended-fixed}
 use Rattle.isolation.proofs.Views.{access-by, agree-refl, agree-kept}
 
 -- ---- one bit of one object

@@ -4,23 +4,19 @@ use native.Mathlib.Decide.{decLt, ℕ-discrete}
 use native.Mathlib.Omega.{arith}
 use mathlib.Core.Path.{_≡_, refl, sym, ap, _∙_}
 use mathlib.Core.Logic.{_≢_, _⊎_, inl, inr}
-use mathlib.Core.Bool.{Bool, true, false, cond, not, _&&_, true≢false, false≢true}
+use mathlib.Core.Bool.{Bool, true, false, not, _&&_, true≢false, false≢true}
 use mathlib.Core.List.{List}
 use lib.ListN.{length}
 use borrow.Author.Tests.{not-false}
 use Rattle.answer.specs.declared.Answer.{Answer}
-use Rattle.answer.specs.declared.Code.the-variants.{Eperm, Ebadf}
-use Rattle.answer.specs.Answer.{numberOf}
 use Rattle.userspace.specs.Bit.{isSet}
 use Rattle.userspace.specs.declared.InitCheck.{InitCheck}
-use Rattle.userspace.specs.declared.Validated.the-variants.{Refused}
-use Rattle.userspace.specs.Userspace.{THREADS, PUBLIC, typeFits, public, access, initialised, initJudged, judged, validated, answerOf}
-use Rattle.tables.specs.Table.{HANDLES}
-use Rattle.tables.specs.State.{State, object, thread, domain}
+use Rattle.userspace.specs.Userspace.{THREADS, PUBLIC, typeFits, public, access, judged, validated, answerOf}
+use Rattle.tables.specs.State.{State, object, thread}
 use Rattle.rules.specs.Rules.{isSupervisor, Keeps}
 use Rattle.judging.specs.declared.Call.{Call}
 use Rattle.judging.specs.Calls.{Op, validate, grant, release, check, exit, sup, unknown, opOf, callOf}
-use Rattle.judging.specs.Judge.{live, supervisor, typeOf, mayUse, modeOf, Use, noHandle, taken, free, useOf, withHandle, rule, isPrivileged, wellFormed, judgeOp, judge, heard}
+use Rattle.judging.specs.Judge.{live, supervisor, typeOf, mayUse, modeOf, Use, noHandle, taken, free, useOf, withHandle, rule, isPrivileged, judgeOp, judge, heard}
 use Rattle.judging.specs.Change.{after, left}
 use Rattle.call_laws.proofs.Cascade.{past}
 use Rattle.call_laws.proofs.Conditions.{access-iff}
@@ -28,7 +24,7 @@ use Rattle.call_laws.proofs.Operations.{grant-ok-means, release-ok-means}
 use Rattle.call_laws.proofs.Changes.{BitIs, OneObject, Ended, after-refused, validate-does, check-does, grant-does, release-does, exit-does}
 use Rattle.call_laws.proofs.Order.{heard-short, heard-long, heard-whole, left-other, left-whole}
 use Rattle.isolation.specs.View.{bitAt, SameBits, Agree}
-use Rattle.isolation.proofs.Step.{Step, refuses, validates, checks, grants, releases, exits, step, Fixed, same-threads, one-fixed, ended-fixed}
+use Rattle.isolation.proofs.Step.{Step, refuses, validates, checks, grants, releases, exits, step, same-threads, one-fixed, ended-fixed}
 use Rattle.isolation.proofs.Views.{access-by, same-access, same-supervisor, Fate, stays, dies, agree-next}
 
 -- ---- the answer

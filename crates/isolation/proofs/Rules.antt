@@ -1,11 +1,11 @@
 -- What the rules give, call by call and in whole runs: an unprivileged caller changes no type, no flag, no slot and no thread but its own record, and that only
 -- by its exit; memory rights change only by a supervisor's calls; no access comes from an exit.
-use Prim.Native.Nat.{ℕ, _+_, _≤_, _<_}
+use Prim.Native.Nat.{ℕ, _<_}
 use native.Mathlib.Decide.{ℕ-discrete}
 use native.Mathlib.Omega.{arith}
 use mathlib.Core.Path.{_≡_, refl, sym, ap, _∙_, subst}
 use mathlib.Core.Logic.{_≢_, _↔_}
-use mathlib.Core.Bool.{Bool, true, false, cond, _&&_, _||_, true≢false, false≢true}
+use mathlib.Core.Bool.{Bool, true, false, cond, _&&_, _||_, false≢true}
 use mathlib.Core.List.{List, [], _∷_}
 use lib.Dec.{eqb}
 use Rattle.domain_rules.proofs.All.{both-true}
@@ -21,7 +21,7 @@ use Rattle.judging.specs.Judge.{live, supervisor, typeOf, mayUse, judge}
 use Rattle.judging.specs.Change.{after}
 use Rattle.call_laws.proofs.Keeps.{keeps-after}
 use Rattle.call_laws.proofs.Operations.{check-ok-means, check-ok-when}
-use Rattle.call_laws.proofs.Changes.{BitIs, OneObject, Ended, after-refused, exit-does}
+use Rattle.call_laws.proofs.Changes.{Ended, after-refused, exit-does}
 use Rattle.isolation.specs.Trace.{run, Unprivileged}
 use Rattle.isolation.specs.Rights.{mayTouch, asksByte, NoSupervisor}
 use Rattle.isolation.proofs.Step.{Step, refuses, validates, checks, grants, releases, exits, step, Fixed, fixed-refl, fixed-trans, same-threads, one-fixed, ended-fixed, still-fixed}

@@ -1,26 +1,26 @@
 -- Noninterference with named exceptions. Two runs without a supervisor's call, from states that agree on t's view: if t sees the same of both, that is its own
 -- calls, the accepted grants to it and the others' exits, in order, then it got the same answers and the views agree at the end. All other calls may differ in
 -- any way and number. Nothing is asked of t itself: its own calls are unprivileged as all others of the run are.
-use Prim.Native.Nat.{ℕ, _<_}
+use Prim.Native.Nat.{ℕ}
 use native.Mathlib.Decide.{ℕ-discrete}
 use native.Mathlib.Omega.{arith}
 use mathlib.Core.Path.{_≡_, refl, sym, ap, _∙_, subst}
 use mathlib.Core.Logic.{_≢_}
-use mathlib.Core.Bool.{Bool, true, false, cond}
+use mathlib.Core.Bool.{true, false, cond}
 use mathlib.Core.List.{List, [], _∷_}
 use lib.Dec.{eqb}
 use borrow.Author.Tests.{eq-eqb, ne-eqb}
 use Rattle.answer.specs.declared.Answer.{Answer}
 use Rattle.userspace.specs.Userspace.{initialised}
-use Rattle.tables.specs.State.{State, object, thread}
+use Rattle.tables.specs.State.{State, object}
 use Rattle.rules.specs.Rules.{Keeps}
 use Rattle.judging.specs.declared.Call.{Call}
-use Rattle.judging.specs.Calls.{validate, grant, release, check, exit, opOf}
+use Rattle.judging.specs.Calls.{opOf}
 use Rattle.judging.specs.Judge.{supervisor, mayUse, judge}
 use Rattle.judging.specs.Change.{after}
 use Rattle.call_laws.proofs.Keeps.{keeps-after}
 use Rattle.call_laws.proofs.Changes.{BitIs, OneObject, Ended}
-use Rattle.isolation.specs.View.{bitAt, SameBits, Agree}
+use Rattle.isolation.specs.View.{bitAt, Agree}
 use Rattle.isolation.specs.Trace.{run, Unprivileged, Event, asked, given, ended, Seen, nothing, seen, witnessed, event, noted, trace, answers}
 use Rattle.isolation.proofs.Step.{Step, refuses, validates, checks, grants, releases, exits, step, same-threads, one-fixed, ended-fixed}
 use Rattle.isolation.proofs.Views.{access-by, agree-refl, agree-sym, agree-trans, Fate, stays, dies, agree-next}

@@ -5,7 +5,6 @@ use mathlib.Core.Path.{_≡_, refl, sym, ap, _∙_}
 use mathlib.Core.Logic.{_≢_}
 use mathlib.Core.Bool.{Bool, true, false, true≢false}
 use Rattle.userspace.specs.declared.KernelObject.{KernelObject}
-use Rattle.tables.specs.Table.{nobody}
 use Rattle.tables.specs.State.{State, object, thread, domain}
 use Rattle.rules.specs.Rules.{Keeps}
 use Rattle.judging.specs.declared.Call.{Call}

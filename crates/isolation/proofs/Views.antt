@@ -2,14 +2,12 @@
 use Prim.Native.Nat.{ℕ}
 use mathlib.Core.Path.{_≡_, refl, sym, ap, _∙_}
 use mathlib.Core.Logic.{_≢_}
-use mathlib.Core.Bool.{Bool, true, false, true≢false, false≢true}
-use Rattle.userspace.specs.Bit.{isSet}
-use Rattle.userspace.specs.Userspace.{PUBLIC, INITIALISED, holds, access, initialised, public}
-use Rattle.tables.specs.declared.Thread.{Thread}
+use mathlib.Core.Bool.{true, false, false≢true}
+use Rattle.userspace.specs.Userspace.{holds, access, initialised, public}
 use Rattle.tables.specs.Table.{nobody}
 use Rattle.tables.specs.State.{State, object, thread, domain}
 use Rattle.rules.specs.Rules.{isLive, isSupervisor}
-use Rattle.judging.specs.Judge.{live, supervisor, typeOf, mayUse}
+use Rattle.judging.specs.Judge.{live, supervisor, mayUse}
 use Rattle.isolation.specs.View.{bitAt, SameBits, Agree}
 use Rattle.isolation.proofs.Step.{Fixed, fixed-refl}
 

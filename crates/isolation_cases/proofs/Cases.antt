@@ -5,7 +5,7 @@ use native.Mathlib.Decide.{ℕ-discrete}
 use native.Mathlib.Omega.{arith}
 use mathlib.Core.Path.{_≡_, refl, sym, ap, _∙_}
 use mathlib.Core.Logic.{_≢_}
-use mathlib.Core.Bool.{Bool, true, false, false≢true}
+use mathlib.Core.Bool.{true, false, false≢true}
 use Rattle.mem_domain.specs.Scan.{firstFrom}
 use Rattle.mem_domain.specs.Partition.{isValid, meets, overlapOf, holds as windowHolds}
 use Rattle.mem_domain.specs.Domain.{withCount, clashes, addable, lowestFree, hasFree, added, changedAt as slotChanged}
@@ -14,7 +14,7 @@ use Rattle.userspace.specs.declared.KernelObject.{KernelObject}
 use Rattle.userspace.specs.Userspace.{PUBLIC, INITIALISED, public, initialised, newObject, holds, typeFits, access, changedAt, judged, validated, granted, revoked}
 use Rattle.tables.specs.declared.Thread.{Thread}
 use Rattle.tables.specs.Tabulate.{tabulate}
-use Rattle.tables.specs.Table.{noObject, nobody, objectAt, threadAt, partitionAt, partitionsAt}
+use Rattle.tables.specs.Table.{noObject, objectAt, threadAt, partitionAt, partitionsAt}
 use Rattle.tables.specs.State.{State, objectsOf, threadsOf, domainsOf, object, thread, domain}
 use Rattle.rules.specs.Rules.{isLive, isSupervisor, Keeps}
 use Rattle.mem_check.specs.Memory.{gives, isCovered, coveredRun, reached, memoryRule}
