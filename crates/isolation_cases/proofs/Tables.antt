@@ -1,22 +1,25 @@
--- A thread's own calls on the tables of numbers: through the promise of `calls::call` itself, for bytes of any number.
-use Prim.Native.Nat.{ℕ, _<_}
+-- The theorems on the tables of numbers: a thread's own calls through the promise of `calls::call` itself, for bytes of any number; and a log as a run of calls.
+use Prim.Native.Nat.{ℕ, zero, suc, _-_, _*_, _≤_, _<_, min}
 use native.Mathlib.Decide.{decLt, ℕ-discrete}
 use native.Mathlib.Omega.{arith}
-use mathlib.Core.Path.{_≡_, refl, sym, _∙_}
+use mathlib.Core.Path.{_≡_, refl, sym, ap, _∙_}
 use mathlib.Core.Bool.{false}
-use mathlib.Core.List.{List}
-use lib.ListN.{length}
+use mathlib.Core.List.{List, [], _∷_, _++_}
+use lib.ListN.{length, length-take, length-drop}
 use Rattle.answer.specs.declared.Answer.{Answer}
 use Rattle.tables.specs.State.{State, stateOf}
 use Rattle.rules.specs.Rules.{Sound}
 use Rattle.rules.proofs.Rules.{sound-test}
+use Rattle.judging.specs.declared.Call.{Call}
 use Rattle.judging.specs.Calls.{callOf}
 use Rattle.judging.specs.Judge.{supervisor, judgeIn, heard}
-use Rattle.judging.specs.Change.{left}
-use Rattle.calls.specs.Calls.{Called}
+use Rattle.judging.specs.Change.{after, left}
+use Rattle.call_laws.proofs.Order.{left-other, left-whole}
+use Rattle.calls.specs.Calls.{Called, partAt, ranTo}
 use Rattle.calls.specs.Steps.{Stepped}
 use Rattle.calls.proofs.Laws.{step-refused, step-done, hear-short, hear-long, hear-whole, call-heard}
 use Rattle.isolation.specs.View.{Agree}
+use Rattle.isolation.specs.Trace.{run}
 use Rattle.isolation.proofs.Own.{Alike, own-bytes}
 
 -- the tables that a call of tables that keep the rules leaves stand for the state after it
@@ -54,3 +57,35 @@ own-tables t bs {os₁} {ts₁} {ss₁} {os₂} {ts₂} {ss₂} e z₁ z₂ g u 
     let q = state-left z₂ bs d₂ in
     let a = own-bytes (stateOf os₁ ts₁ ss₁) (stateOf os₂ ts₂ ss₂) t bs e (z₁ .keeps) (z₂ .keeps) g u in
     record { answer = p .answer ∙ a .answer ∙ sym (q .answer); view = rw (p .state, q .state) (a .view) }
+
+-- ---- a log is a run of calls
+
+-- the calls of its first n parts
+unfoldable pub callsTo : List ℕ → ℕ → List Call
+callsTo log zero = []
+callsTo log (suc k) = callsTo log k ++ callOf (partAt log k) ∷ []
+
+run-last : (cs : List Call) (s : State) (c : Call) → run s (cs ++ c ∷ []) ≡ after (run s cs) c
+unfolding run
+run-last [] s c = refl
+run-last (d ∷ cs) s c = run-last cs (after s d) c
+
+whole-part : (log : List ℕ) (k : ℕ) → 16 * suc k ≤ length log → length (partAt log k) ≡ 16
+whole-part log k h = simp (length-take, length-drop) (omega arith)
+
+-- so what is proved of runs is proved of the state that `calls::run` promises after the whole parts of a log
+pub log-runs : (n : ℕ) (s : State) (log : List ℕ) → 16 * n ≤ length log → ranTo s log n ≡ run s (callsTo log n)
+unfolding ranTo callsTo run
+log-runs zero s log h = refl
+log-runs (suc k) s log h =
+    left-whole (ranTo s log k) (partAt log k) (whole-part log k h)
+    ∙ ap (λ (x : State). after x (callOf (partAt log k))) (log-runs k s log (omega arith))
+    ∙ sym (run-last (callsTo log k) s (callOf (partAt log k)))
+
+-- and a last part of under sixteen bytes changes nothing
+pub log-ends : (n : ℕ) (s : State) (log : List ℕ) → length log < 16 * suc n → ranTo s log (suc n) ≡ ranTo s log n
+unfolding ranTo
+log-ends n s log h = left-other (ranTo s log n) (partAt log n) (λ e. short (sym e ∙ simp (length-take, length-drop)))
+  where
+    short : 16 ≡ min 16 (length log - 16 * n) → ⊥
+    short e = omega arith
