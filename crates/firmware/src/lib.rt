@@ -32,7 +32,7 @@ pub extern "C" fn wardlatch_run(
 ) -> u32
     ensures { λ r. ⌜ Run (now (objects .entry)) (now (threads .entry)) (now (slots .entry)) (now (log .entry)) (now (out .entry)) (record { code = r; answers = now (answers .exit) }) (now (objects .exit)) (now (threads .exit)) (now (slots .exit)) (now (out .exit)) ⌝ }
 {
-    let r = calls::run(objects, threads, slots, log, out);
-    *answers = r.answers;
-    r.code
+    let ran = calls::run(objects, threads, slots, log, out);
+    *answers = ran.answers;
+    ran.code
 }

@@ -1,5 +1,5 @@
 -- The code's steps: a slot's run, a scan, and the walk from window to window, against the definition byte by byte.
-use Prim.Native.Nat.{ℕ, zero, suc, _+_, _-_, _*_, _≤_, _<_}
+use Prim.Native.Nat.{ℕ, zero, suc, _+_, _-_, _*_, _^_, _≤_, _<_}
 use native.Mathlib.Nat.{not-suc-le-zero}
 use native.Mathlib.Decide.{decLt}
 use native.Mathlib.Omega.{arith}
@@ -12,7 +12,7 @@ use Rattle.mem_domain.specs.declared.MemPartition.{MemPartition}
 use Rattle.tables.specs.Tabulate.{getD-tabulate}
 use Rattle.tables.specs.Table.{partitionAt, partitionsAt}
 use Rattle.mem_check.specs.Memory.{gives, coversAt, isCovered, coveredRun}
-use Rattle.mem_check.specs.Windows.{covers, runIn, Run}
+use Rattle.mem_check.specs.Windows.{Ahead, covers, runIn, Run}
 use Rattle.mem_check.proofs.Memory.{Covers, slot-means, slot-when, covered-when, covered-not, run-on, run-off, run-empty}
 
 -- ---- a slot
@@ -32,6 +32,14 @@ module _ (p : MemPartition) (write : Bool) (x : ℕ) where
 
   pub slot-behind : p .size ≤ x - p .start → 0 ≡ runIn p write x
   slot-behind h = slot-none (λ c. omega arith)
+
+  -- one comparison: a size that does not reach as far as x lies ahead
+  pub slot-far : {r : ℕ} → Ahead (p .start) x r → p .size ≤ r → 0 ≡ runIn p write x
+  slot-far {r} a h = go (decLt x (p .start))
+    where
+      go : Dec (x < p .start) → 0 ≡ runIn p write x
+      go (yes b) = slot-before b
+      go (no f) = slot-behind (omega (arith, a .behind (omega arith)))
 
   pub slot-barred : gives p write ≡ false → 0 ≡ runIn p write x
   slot-barred e = slot-none (λ c. absurd (true≢false (sym (c .right) ∙ e)))
@@ -144,3 +152,11 @@ module _ (ps : List MemPartition) (write : Bool) where
 
   pub walk-end : (from len done r : ℕ) → len ≤ done → r ≡ done + coveredRun ps write (from + done) (len - done) → done ≡ r
   walk-end from len done r l k = omega (arith, run-empty ps write (from + done) (len - done) (omega arith))
+
+-- a size that reaches farther: x lies in the window
+pub in-reach : {start x r size : ℕ} → Ahead start x r → r < size → size < 2 ^ 32 → (start ≤ x) × (x - start < size)
+in-reach {start} {x} {r} {size} a h l = go (decLt x start)
+  where
+    go : Dec (x < start) → (start ≤ x) × (x - start < size)
+    go (yes b) = absurd (omega (arith, a .before b))
+    go (no f) = (omega arith, omega (arith, a .behind (omega arith)))

@@ -2,12 +2,12 @@
 // of the sixteen slots jumps to the end of one window, and no window is jumped twice, so 17 scans are the most.
 // Promised, for any table: the answer of the byte-by-byte definition (specs/Memory.antt), the first address that is not covered included.
 ghost use mathlib.Core.Path.{_≡_};
-ghost use Prim.Native.Nat.{_+_, _*_, _<_, _≤_};
+ghost use Prim.Native.Nat.{_+_, _*_, _<_, _≤_, _^_};
 ghost use lib.ListN.{length};
 ghost use Rattle.userspace.specs.Bit.{isSet};
 ghost use Rattle.tables.specs.Table.{partitionAt, partitionsAt};
 ghost use Rattle.mem_check.specs.Memory.{coveredRun, slotsIn, memoryRule, rightBit};
-ghost use Rattle.mem_check.specs.Windows.{runIn, Run};
+ghost use Rattle.mem_check.specs.Windows.{runIn, Run, Ahead};
 use answer::Answer;
 use tables::SLOTS;
 
@@ -23,19 +23,28 @@ fn is_given(attr: u32, write: bool) -> bool
     attr & 1 != 0
 }
 
-// What slot n of the table covers from x on, 0 where it does not cover x. It lies within the table, so no index is tested; most slots are left after one
-// number or two.
+fn wide(x: u32) -> u64
+    ensures { λ r. ⌜ (r ≡ x) × (r < 2 ^ 32) ⌝ }
+{
+    x as u64
+}
+
+// How far x lies behind start; where it lies before, a number that no size reaches. So one comparison with the size tells whether a window holds x.
+fn ahead_of(start: u32, x: u32) -> u64
+    ensures { λ r. ⌜ Ahead start x r ⌝ }
+{
+    std::num::wrapping_sub_u64(wide(x), wide(start))
+}
+
+// What slot n of the table covers from x on, 0 where it does not cover x. It lies within the table, so no index is tested.
 fn run_in(slots: &[u32], n: usize, x: u32, write: bool) -> u32
     requires { ⌜ 3 * n + 2 < length (now slots) ⌝ }
     ensures { λ r. ⌜ r ≡ runIn (partitionAt (now (slots .entry)) n) write x ⌝ }
 {
     let i = 3 * n;
     let start = slots[i];
-    if x < start {
-        return 0;
-    }
     let size = slots[i + 1];
-    if size <= x - start {
+    if wide(size) <= ahead_of(start, x) {
         return 0;
     }
     if is_given(slots[i + 2], write) {
