@@ -18,7 +18,7 @@ use Rattle.judging.specs.Calls.{opOf, callOf}
 use Rattle.judging.specs.Judge.{refused, judge, heard, sized, judgeIn}
 use Rattle.judging.specs.Change.{objectChange, threadChange, domainChange, after, left}
 use Rattle.judging.proofs.Sizes.{sized-by}
-use Rattle.applying.specs.Apply.{enactObjects, enactThreads, enactSlots}
+use Rattle.applying.specs.Apply.{enactIn, enactObjects, enactThreads, enactSlots}
 use Rattle.applying.proofs.Picture.{fit-after}
 use Rattle.applying.proofs.InRange.{applied-ok}
 use Rattle.call_laws.proofs.Keeps.{keeps-after}
@@ -26,6 +26,23 @@ use Rattle.call_laws.proofs.Order.{heard-short, heard-long, heard-whole, left-o
 use Rattle.calls.specs.Calls.{answered, Called, partAt, partsIn, putAnswer, ranTo, answersTo, runAnswer, ranWith, ranParts, Run}
 use Rattle.calls.specs.declared.Ran.{Ran}
 use Rattle.calls.specs.Steps.{Stepped, Told, Ranged}
+
+-- operations 0 to 3 leave threads and slots as they are
+light-threads : (c : Call) (ts : List ℕ) (n : ℕ) → n < 4 → ts ≡ enactThreads (threadChange (opOf n) c) ts
+unfolding opOf threadChange enactIn
+light-threads c ts zero h = refl
+light-threads c ts (suc zero) h = refl
+light-threads c ts (suc (suc zero)) h = refl
+light-threads c ts (suc (suc (suc zero))) h = refl
+light-threads c ts (suc (suc (suc (suc n)))) h = absurd (omega arith)
+
+light-slots : (c : Call) (ss : List ℕ) (n : ℕ) → n < 4 → ss ≡ enactSlots (domainChange (opOf n) c) ss
+unfolding opOf domainChange enactIn
+light-slots c ss zero h = refl
+light-slots c ss (suc zero) h = refl
+light-slots c ss (suc (suc zero)) h = refl
+light-slots c ss (suc (suc (suc zero))) h = refl
+light-slots c ss (suc (suc (suc (suc n)))) h = absurd (omega arith)
 
 module _ {os ts ss : List ℕ} (sound : Sound os ts ss) where
   -- tables that keep the rules have the right lengths
@@ -63,6 +80,12 @@ module _ {os ts ss : List ℕ} (sound : Sound os ts ss) where
           state = state;
           sound = record { fit = fit; keeps = rw state (keeps-after (stateOf os ts ss) c (sound .keeps)) };
         }
+
+    -- operations 0 to 3 change objects alone
+    pub step-light :
+        {os′ : List ℕ} → r .code ≡ 0 → c .op < 4 → os′ ≡ enactObjects (objectChange (opOf (c .op)) c) os →
+        Stepped (judge (stateOf os ts ss) c) (after (stateOf os ts ss) c) r os′ ts ss
+    step-light z l po = step-done z po (light-threads c ts (c .op) l) (light-slots c ss (c .op) l)
 
   -- bytes as they come
   module _ (bs : List ℕ) where
@@ -130,14 +153,15 @@ answers-one s log out n = put-length (answersTo s log out n) n (heard (ranTo s l
 pub told-length : {s : State} {bs : List ℕ} {k : ℕ} {out os ts ss out′ : List ℕ} → Told s bs k out os ts ss out′ → length out′ ≡ length out
 told-length {s} {bs} {k} {out} p = ap length (p .buffer) ∙ put-length out k (heard s bs)
 
--- the k-th part, as the code cuts it
+-- the k-th part, as the code cuts it: sixteen bytes, a call
 pub told-at :
-    (s : State) (log : List ℕ) (k : ℕ) {r : Answer} {os ts ss out out′ : List ℕ} →
-    Stepped (heard s (take (16 * k + 16 - 16 * k) (drop (16 * k) log))) (left s (take (16 * k + 16 - 16 * k) (drop (16 * k) log))) r os ts ss →
-    out′ ≡ putAnswer out k r → Told s (partAt log k) k out os ts ss out′
-told-at s log k {r} {os} {ts} {ss} p q =
-    let e : 16 * k + 16 - 16 * k ≡ 16 = omega arith in
-    told s (partAt log k) k (rw e at p) q
+    (s : State) (log : List ℕ) (k : ℕ) {c : Call} {r : Answer} {os ts ss out out′ : List ℕ} → 16 * k + 16 ≤ length log →
+    c ≡ callOf (take (16 * k + 16 - 16 * k) (drop (16 * k) log)) → Stepped (judge s c) (after s c) r os ts ss → out′ ≡ putAnswer out k r →
+    Told s (partAt log k) k out os ts ss out′
+told-at s log k h e p q =
+    let n : 16 * k + 16 - 16 * k ≡ 16 = omega arith in
+    let l : length (partAt log k) ≡ 16 = omega (arith, length-take 16 (drop (16 * k) log), length-drop (16 * k) log) in
+    told s (partAt log k) k (hear-whole s (partAt log k) l (rw n at e) p) q
 
 module _ (s : State) (log out : List ℕ) where
   -- nothing yet

@@ -22,7 +22,7 @@ pub struct Ran {
     pub answers: usize,
 }
 
-// One call, judged and, if it is answered OK, applied.
+// One call, judged and, if it is answered OK, applied. The calls of every day, 0 to 3, change objects alone: they end early.
 fn step(objects: &mut [u64], threads: &mut [u32], slots: &mut [u32], c: Call) -> Answer
     requires { ⌜ Sound (now objects) (now threads) (now slots) ⌝ }
     ensures { λ r. ⌜ Stepped (judge·spec (stateOf (now (objects .entry)) (now (threads .entry)) (now (slots .entry))) c) (after (stateOf (now (objects .entry)) (now (threads .entry)) (now (slots .entry))) c) r (now (objects .exit)) (now (threads .exit)) (now (slots .exit)) ⌝ }
@@ -32,6 +32,9 @@ fn step(objects: &mut [u64], threads: &mut [u32], slots: &mut [u32], c: Call) ->
         return r;
     }
     applying::change_objects(objects, c);
+    if c.op < 4 {
+        return r;
+    }
     applying::change_threads(threads, c);
     applying::change_slots(slots, c);
     r
@@ -92,7 +95,8 @@ fn turn(
     ensures { λ _. ⌜ Told (stateOf (now (objects .entry)) (now (threads .entry)) (now (slots .entry))) (partAt (now (log .entry)) k) k (now (out .entry)) (now (objects .exit)) (now (threads .exit)) (now (slots .exit)) (now (out .exit)) ⌝ }
 {
     let from = CALL * k;
-    let a = hear(objects, threads, slots, &log[from..from + CALL]);
+    let c = judging::decode(&log[from..from + CALL]);
+    let a = step(objects, threads, slots, c);
     put_answer(out, k, a);
 }
 

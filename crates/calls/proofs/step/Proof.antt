@@ -1,5 +1,4 @@
-use Prim.Native.Nat.{_-_}
-use Rattle.calls.proofs.Laws.{step-refused, step-done}
+use Rattle.calls.proofs.Laws.{step-refused, step-light, step-done}
 use borrow.Author.Needs.{needs}
 use Rattle.calls.proofs.step.Statement.{statement}
 use Rattle.calls.proofs.step.Tie as tie
@@ -34,29 +33,45 @@ returns c = step-refused (c .before .before .before .before .before .before .bef
 change-objects-requires : tie.Need-change-objects-requires
 change-objects-requires c κs = search needs
 
--- src/lib.rt:35:5
+-- src/lib.rt:36:9
+same-length-4 : tie.Need-same-length-4
+same-length-4 c = search needs
+
+-- src/lib.rt:36:9
+same-length-5 : tie.Need-same-length-5
+same-length-5 c = search needs
+
+-- src/lib.rt:36:9
+same-length-6 : tie.Need-same-length-6
+same-length-6 c = search needs
+
+-- src/lib.rt:36:9
+returns-2 : tie.Need-returns-2
+returns-2 c = step-light (c .before .before .before .before .before .before .before .before .before .before .before .before .before .before .before .pre) _ _ (c .before .before .before .before .before .before .before .before .judge .ensures) (c .before .before .before .before .before .before .if1 .left) (c .if2 .taken) (c .before .before .before .before .change-objects .ensures)
+
+-- src/lib.rt:38:5
 change-threads-requires : tie.Need-change-threads-requires
 change-threads-requires c κs = search needs
 
--- src/lib.rt:36:5
+-- src/lib.rt:39:5
 change-slots-requires : tie.Need-change-slots-requires
 change-slots-requires c κs = search needs
 
 -- src/lib.rt:26:1
-same-length-4 : tie.Need-same-length-4
-same-length-4 c = search needs
+same-length-7 : tie.Need-same-length-7
+same-length-7 c = search needs
 
 -- src/lib.rt:26:1
-same-length-5 : tie.Need-same-length-5
-same-length-5 c = search needs
+same-length-8 : tie.Need-same-length-8
+same-length-8 c = search needs
 
 -- src/lib.rt:26:1
-same-length-6 : tie.Need-same-length-6
-same-length-6 c = search needs
+same-length-9 : tie.Need-same-length-9
+same-length-9 c = search needs
 
 -- src/lib.rt:26:1
-returns-2 : tie.Need-returns-2
-returns-2 c = step-done (c .before .before .before .before .before .before .before .before .before .before .before .before .before .before .before .before .before .before .before .before .before .pre) _ _ (c .before .before .before .before .before .before .before .before .before .before .before .before .before .before .judge .ensures) (c .before .before .before .before .before .before .before .before .before .before .before .before .if1 .left) (c .before .before .before .before .before .before .before .before .before .before .change-objects .ensures) (c .before .before .before .before .before .before .change-threads .ensures) (c .before .before .change-slots .ensures)
+returns-3 : tie.Need-returns-3
+returns-3 c = step-done (c .before .before .before .before .before .before .before .before .before .before .before .before .before .before .before .before .before .before .before .before .before .before .before .pre) _ _ (c .before .before .before .before .before .before .before .before .before .before .before .before .before .before .before .before .judge .ensures) (c .before .before .before .before .before .before .before .before .before .before .before .before .before .before .if1 .left) (c .before .before .before .before .before .before .before .before .before .before .before .before .change-objects .ensures) (c .before .before .before .before .before .before .change-threads .ensures) (c .before .before .change-slots .ensures)
 
 pub step-spec : {M : Type 1} → statement M
 step-spec =
@@ -68,9 +83,13 @@ step-spec =
     same-length-3
     returns
     change-objects-requires
-    change-threads-requires
-    change-slots-requires
     same-length-4
     same-length-5
     same-length-6
-    returns-2)
+    returns-2
+    change-threads-requires
+    change-slots-requires
+    same-length-7
+    same-length-8
+    same-length-9
+    returns-3)
