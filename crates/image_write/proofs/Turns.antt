@@ -144,3 +144,25 @@ encode-put os ts ss o m n a b em en ea eb e₁ e₂ e₃ e₄ =
     let f₃ : 0 + length (h ++ p ++ q) ≡ b = simp (length-append, header-length, threads-length, cat-length (objectBytes os) 12 m (object-length os)) (omega arith) in
     rw (← em, ← en)
     (behind (h ++ p ++ q) (domainsBytes ss) o 0 b (behind (h ++ p) q o 0 a (behind h p o 0 16 e₁ e₂ f₁) e₃ f₂) e₄ f₃)
+
+-- how many objects and threads there can be, and so how long an image
+pub top-most : (os : List ℕ) (n : ℕ) → top os n ≤ n
+unfolding top
+top-most os zero = le-refl 0
+top-most os (suc n) =
+    elim (ℕ-discrete (getD os (2 * n) 0) 0) [
+      | yes e ↦ rw (eq-eqb _ _ e) (omega (arith, top-most os n))
+      | no e ↦ rw (ne-eqb _ _ e) (le-refl (suc n))
+    ]
+
+pub live-most : (ts : List ℕ) (n : ℕ) → live ts n ≤ n
+unfolding live
+live-most ts zero = le-refl 0
+live-most ts (suc n) =
+    elim (ℕ-discrete (getD ts (3 * n) 0) 0) [
+      | yes e ↦ rw (eq-eqb _ _ e) (omega (arith, live-most ts n))
+      | no e ↦ rw (ne-eqb _ _ e) (omega (arith, live-most ts n))
+    ]
+
+pub encode-most : (os ts ss : List ℕ) → length (encode os ts ss) ≤ 5136
+encode-most os ts ss = rw encode-length (omega (arith, top-most os 256, live-most ts 64))

@@ -23,18 +23,20 @@ const ALL_DOMAINS: usize = DOMAINS as usize;
 
 const DOMAIN_COUNT: u64 = DOMAINS as u64;
 
-// How many bytes each part has, and how many numbers a domain.
-const HEADER: usize = 16;
+// How many bytes each part of an image has, how many numbers a domain, and how short and how long an image can be.
+pub const HEADER: usize = 16;
 
-const OBJECT: usize = 12;
+pub const OBJECT: usize = 12;
 
-const THREAD: usize = 8;
+pub const THREAD: usize = 8;
 
-const NUMBERS: usize = 3 * SLOTS;
+pub const NUMBERS: usize = 3 * SLOTS;
 
-const DOMAIN: usize = 4 * NUMBERS;
+pub const DOMAIN: usize = 4 * NUMBERS;
 
-const LEAST: usize = HEADER + ALL_DOMAINS * DOMAIN;
+pub const LEAST: usize = HEADER + ALL_DOMAINS * DOMAIN;
+
+pub const LONGEST: usize = LEAST + OBJECT * ALL_HANDLES + THREAD * ALL_THREADS;
 
 fn wide32(x: u32) -> u64
     ensures { λ r. ⌜ r ≡ x ⌝ }

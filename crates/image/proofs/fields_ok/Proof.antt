@@ -1,0 +1,57 @@
+use mathlib.Core.Path.{_≡_, refl, sym, ap, _∙_}
+use borrow.Author.Tests.{le-leb, lt-leb, eq-eqb, ne-eqb}
+use Rattle.image.specs.Read.{fieldsOk}
+use borrow.Author.Needs.{needs}
+use Rattle.image.proofs.fields_ok.Statement.{statement}
+use Rattle.image.proofs.fields_ok.Tie as tie
+use Rattle.image.proofs.fields_ok.Reads as reads
+use Rattle.image.proofs.fields_ok.Lts as lts
+
+-- src/lib.rt:156:9
+returns : tie.Need-returns
+unfolding fieldsOk
+returns c = rw (lt-leb _ _ (c .if1 .taken))
+
+-- src/lib.rt:159:9
+returns-2 : tie.Need-returns-2
+unfolding fieldsOk
+returns-2 c = rw (le-leb _ _ (c .before .if1 .left), lt-leb _ _ (c .if2 .taken))
+
+-- src/lib.rt:162:9
+returns-3 : tie.Need-returns-3
+unfolding fieldsOk
+returns-3 c = rw (le-leb _ _ (c .before .before .if1 .left), le-leb _ _ (c .before .if2 .left), ne-eqb _ _ (c .if3 .taken))
+
+-- src/lib.rt:164:24
+mul-result : tie.Need-mul-result
+mul-result c = search needs
+
+-- src/lib.rt:164:10
+add-result : tie.Need-add-result
+add-result c = search needs
+
+-- src/lib.rt:164:42
+mul-result-2 : tie.Need-mul-result-2
+mul-result-2 c = search needs
+
+-- src/lib.rt:164:10
+add-result-2 : tie.Need-add-result-2
+add-result-2 c = search needs
+
+-- src/lib.rt:151:1
+returns-4 : tie.Need-returns-4
+unfolding fieldsOk
+returns-4 c = rw (le-leb _ _ (c .before .before .if1 .left), le-leb _ _ (c .before .if2 .left), eq-eqb _ _ (c .if3 .left))
+
+pub fields-ok-spec : {M : Type 1} → statement M
+fields-ok-spec =
+    tie.close
+    (tie.spec
+    returns
+    returns-2
+    returns-3
+    mul-result
+    add-result
+    mul-result-2
+    add-result-2
+    returns-4)

@@ -1,0 +1,65 @@
+use mathlib.Core.Path.{_≡_, refl, sym, ap, _∙_}
+use Prim.Native.Nat.{ℕ, _≤_}
+use native.Mathlib.Omega.{arith}
+use lib.ListN.{length, length-replicate}
+use lib.Seq.{length-take-le}
+use Rattle.image_write.proofs.Answers.{ok-long}
+use Rattle.image_write.proofs.Turns.{encode-most}
+use Rattle.image.proofs.Answers.{long-enough, fits-room, no-image, compared}
+use borrow.Author.Needs.{needs}
+use Rattle.image.proofs.is_image.Statement.{statement}
+use Rattle.image.proofs.is_image.Tie as tie
+use Rattle.image.proofs.is_image.Reads as reads
+use Rattle.image.proofs.is_image.Lts as lts
+use Rattle.image.proofs.same.Reads as same-reads
+use Rattle.image_write.proofs.write.Reads as write-reads
+
+-- src/lib.rt:230:57
+slice-aggregate-write : tie.Need-slice-aggregate-write
+slice-aggregate-write c = search needs
+
+-- src/lib.rt:230:9
+write-requires : tie.Need-write-requires
+write-requires c κs = search needs
+
+-- src/lib.rt:232:9
+returns : tie.Need-returns
+returns c = no-image _ _ (c .before .before .before .write .ensures) long-enough (c .if1 .taken)
+
+-- src/lib.rt:234:13
+cast-k : tie.Need-cast-k
+cast-k c = search needs
+
+-- src/lib.rt:235:10
+array-share-prefix-out : tie.Need-array-share-prefix-out
+array-share-prefix-out c = fits-room (c .before .before .before .before .write .ensures) (c .before .if1 .left) (c .before .before .before .before .write .kept .1 .1 .1 .0)
+
+-- src/lib.rt:235:10
+slice-aggregate-same : tie.Need-slice-aggregate-same
+slice-aggregate-same c = sym (length-take-le _ _ (fits-room (c .before .before .before .before .before .write .ensures) (c .before .before .if1 .left) (c .before .before .before .before .before .write .kept .1 .1 .1 .0)))
+
+-- src/lib.rt:235:21
+slice-aggregate-same-2 : tie.Need-slice-aggregate-same-2
+slice-aggregate-same-2 c = sym (length-take-le _ _ (c .before .before .before .before .before .before .before .before .before .before .before .before .pre))
+
+-- src/lib.rt:235:5
+same-requires : tie.Need-same-requires
+same-requires c κs = search needs
+
+-- src/lib.rt:225:1
+returns-2 : tie.Need-returns-2
+returns-2 c = (c .same .ensures) ∙ compared _ _ (c .before .before .before .before .before .before .before .write .ensures) long-enough (c .before .before .before .before .if1 .left)
+
+pub is-image-spec : {M : Type 1} → statement M
+is-image-spec =
+    tie.close
+    (tie.spec
+    slice-aggregate-write
+    write-requires
+    returns
+    cast-k
+    array-share-prefix-out
+    slice-aggregate-same
+    slice-aggregate-same-2
+    same-requires
+    returns-2)
