@@ -86,6 +86,13 @@ module _ {os ts ss : List ℕ} (s : Sound os ts ss) where
   unfolding objectAt
   free-word h e = ap (λ o. o .word) (sym (object-is h) ∙ s .keeps .free h (ap (λ o. o .«obj_type») (object-is h) ∙ ap (λ x. x % 256) e))
 
+  -- of type 0 is only the head 0
+  pub free-head : (h : ℕ) → h < HANDLES → getD os (2 * h) 0 % 256 ≡ 0 → getD os (2 * h) 0 ≡ 0
+  unfolding objectAt
+  free-head h l e =
+      let f : getD os (2 * h) 0 / 256 % 256 ≡ 0 = ap (λ o. o .flags) (sym (object-is h) ∙ s .keeps .free h (ap (λ o. o .«obj_type») (object-is h) ∙ e)) in
+      omega (arith, head-fits h l)
+
   pub word-fits : (h : ℕ) → getD os (2 * h + 1) 0 < 2 ^ 64
   unfolding objectAt
   word-fits h =

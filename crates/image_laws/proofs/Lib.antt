@@ -1,3 +1,4 @@
 pub mod Fits
 pub mod Place
 pub mod Round
+pub mod Again

@@ -41,19 +41,22 @@ at-right b i xs ys h =
 pub at-behind : (b : List ℕ) (i j : ℕ) (xs ys : List ℕ) → At b i (xs ++ ys) → i + length xs ≡ j → At b j ys
 at-behind b i j xs ys h e = rw (← e) (at-right b i xs ys h)
 
--- record i of a run of records of one length
-pub at-cat : (b : List ℕ) (at : ℕ) (f : ℕ → List ℕ) (m : ℕ) → ((k : ℕ) → length (f k) ≡ m) → (i n : ℕ) → i < n → At b at (cat f n) → At b (at + m * i) (f i)
+-- record i of a run of records of any lengths
+pub at-part : (b : List ℕ) (at : ℕ) (f : ℕ → List ℕ) (i n : ℕ) → i < n → At b at (cat f n) → At b (at + length (cat f i)) (f i)
 unfolding cat
-at-cat b at f m l i zero p h = absurd (omega arith)
-at-cat b at f m l i (suc n) p h =
+at-part b at f i zero p h = absurd (omega arith)
+at-part b at f i (suc n) p h =
     elim (decLt i n) [
-      | yes k ↦ at-cat b at f m l i n k (at-left b at (cat f n) (f n) h)
+      | yes k ↦ at-part b at f i n k (at-left b at (cat f n) (f n) h)
       | no k ↦
           let z : n ≡ i = omega arith in
-          let e : length (cat f i) ≡ m * i = cat-length f m i l in
           let h′ : At b at (cat f i ++ f i) = rw z at h in
-          rw (← e) (at-right b at (cat f i) (f i) h′)
+          at-right b at (cat f i) (f i) h′
     ]
+
+-- record i of a run of records of one length
+pub at-cat : (b : List ℕ) (at : ℕ) (f : ℕ → List ℕ) (m : ℕ) → ((k : ℕ) → length (f k) ≡ m) → (i n : ℕ) → i < n → At b at (cat f n) → At b (at + m * i) (f i)
+at-cat b at f m l i n p h = rw (← cat-length f m i l) (at-part b at f i n p h)
 
 -- the number that stands there is read
 pub le-at : (b : List ℕ) (i n v : ℕ) → v < 256 ^ n → At b i (bytes n v) → le n b i ≡ v

@@ -73,6 +73,13 @@ fill z vs p e =
     ∙ ap (λ (d : List ℕ). vs ++ d) e
     ∙ sym (sets-front (vs ++ (0 ∷ 0 ∷ 0 ∷ [])) z (omega arith) ∙ rw n (append-assoc vs (0 ∷ 0 ∷ 0 ∷ []) (drop (length vs + 3) z)))
 
+-- what is read of a thread's record at i
+pub record RowAt (b : List ℕ) (i t s d g : ℕ) : Type 0 where
+  pub id : le 1 b i ≡ t
+  pub supervisor : le 1 b (i + 1) ≡ s
+  pub domain : le 2 b (i + 2) ≡ d
+  pub handle : le 4 b (i + 4) ≡ g
+
 abbrev triple : List ℕ → ℕ → List ℕ
 triple ts t = getD ts (3 * t) 0 ∷ getD ts (3 * t + 1) 0 ∷ getD ts (3 * t + 2) 0 ∷ []
 
@@ -86,6 +93,11 @@ module _ {os ts ss : List ℕ} (s : Sound os ts ss) where
         | no e ↦ let f : i ≡ 2 * k + 1 = omega arith in rw f (free-word s k z)
       ]
 
+  -- an object's head, read
+  pub head-read : (b : List ℕ) (k : ℕ) → k < 256 → At b (16 + 12 * k) (objectBytes os k) → le 4 b (16 + 12 * k) ≡ getD os (2 * k) 0
+  unfolding objectBytes
+  head-read b k p r = le-at b (16 + 12 * k) 4 (getD os (2 * k) 0) (omega (arith, head-fits s k p)) (at-left b (16 + 12 * k) _ _ r)
+
   objects-back : (b : List ℕ) → objectCount b ≡ top os 256 → At b 16 (cat (objectBytes os) (top os 256)) → readObjects b ≡ os
   unfolding readObjects objectIn objectBytes
   objects-back b e p =
@@ -97,8 +109,7 @@ module _ {os ts ss : List ℕ} (s : Sound os ts ss) where
       (λ k q.
       let r : At b (16 + 12 * k) (bytes 4 (getD os (2 * k) 0) ++ bytes 8 (getD os (2 * k + 1) 0)) = at-cat b 16 (objectBytes os) 12 (object-length os) k m q p in
       let f : 16 + 12 * k + length (bytes 4 (getD os (2 * k) 0)) ≡ 20 + 12 * k = rw bytes-length (omega arith) in
-      let x : le 4 b (16 + 12 * k) ≡ getD os (2 * k) 0 =
-      le-at b (16 + 12 * k) 4 (getD os (2 * k) 0) (omega (arith, head-fits s k (omega arith))) (at-left b (16 + 12 * k) _ _ r) in
+      let x : le 4 b (16 + 12 * k) ≡ getD os (2 * k) 0 = head-read b k (omega arith) r in
       let y : le 8 b (20 + 12 * k) ≡ getD os (2 * k + 1) 0 =
       le-at b (20 + 12 * k) 8 (getD os (2 * k + 1) 0) (word-fits s k) (at-behind b (16 + 12 * k) (20 + 12 * k) (bytes 4 (getD os (2 * k) 0)) (bytes 8 (getD os (2 * k + 1) 0)) r f) in
       rw (pair os (2 * k) (omega arith), x, y) refl)
@@ -110,30 +121,41 @@ module _ {os ts ss : List ℕ} (s : Sound os ts ss) where
 
   -- ---- threads
 
+  -- a live thread's record, read
+  pub row-read :
+      (b : List ℕ) (t i : ℕ) → t < 64 → (getD ts (3 * t) 0 ≡ 0 → ⊥) → At b i (threadBytes ts t) →
+      RowAt b i t (getD ts (3 * t) 0 - 1) (getD ts (3 * t + 1) 0) (getD ts (3 * t + 2) 0)
+  row-read b t i p n q =
+      let r : ℕ = getD ts (3 * t) 0 in
+      let d : ℕ = getD ts (3 * t + 1) 0 in
+      let g : ℕ = getD ts (3 * t + 2) 0 in
+      let k = thread-fits s t in
+      let a₁ : List ℕ = bytes 1 t in
+      let a₂ : List ℕ = a₁ ++ bytes 1 (r - 1) in
+      let a₃ : List ℕ = a₂ ++ bytes 2 d in
+      let q₄ : At b i (a₃ ++ bytes 4 g) = rw (thread-live ts t n) at q in
+      let q₃ : At b i a₃ = at-left b i a₃ (bytes 4 g) q₄ in
+      let q₂ : At b i a₂ = at-left b i a₂ (bytes 2 d) q₃ in
+      let f₂ : i + length a₁ ≡ i + 1 = simp bytes-length in
+      let f₃ : i + length a₂ ≡ i + 2 = simp (length-append, bytes-length) in
+      let f₄ : i + length a₃ ≡ i + 4 = simp (length-append, bytes-length) in
+      record {
+        id = le-at b i 1 t (omega arith) (at-left b i a₁ (bytes 1 (r - 1)) q₂);
+        supervisor = le-at b (i + 1) 1 (r - 1) (omega arith) (at-behind b i (i + 1) a₁ (bytes 1 (r - 1)) q₂ f₂);
+        domain = le-at b (i + 2) 2 d (omega arith) (at-behind b i (i + 2) a₂ (bytes 2 d) q₃ f₃);
+        handle = le-at b (i + 4) 4 g (omega arith) (at-behind b i (i + 4) a₃ (bytes 4 g) q₄ f₄);
+      }
+
   module _ (b : List ℕ) (at : ℕ) (z : List ℕ) (l : length z ≡ 192) (hz : (i : ℕ) → i + 3 ≤ 192 → drop i z ≡ 0 ∷ 0 ∷ 0 ∷ drop (i + 3) z) where
     -- a record that stands in the image goes to its place
     entry : (t i : ℕ) (xs : List ℕ) → t < 64 → (getD ts (3 * t) 0 ≡ 0 → ⊥) → At b i (threadBytes ts t) → enter b i xs ≡ sets xs (3 * t) (triple ts t)
     entry t i xs p n q =
         let r : ℕ = getD ts (3 * t) 0 in
-        let d : ℕ = getD ts (3 * t + 1) 0 in
-        let g : ℕ = getD ts (3 * t + 2) 0 in
-        let k = thread-fits s t in
-        let a₁ : List ℕ = bytes 1 t in
-        let a₂ : List ℕ = a₁ ++ bytes 1 (r - 1) in
-        let a₃ : List ℕ = a₂ ++ bytes 2 d in
-        let q₄ : At b i (a₃ ++ bytes 4 g) = rw (thread-live ts t n) at q in
-        let q₃ : At b i a₃ = at-left b i a₃ (bytes 4 g) q₄ in
-        let q₂ : At b i a₂ = at-left b i a₂ (bytes 2 d) q₃ in
-        let f₂ : i + length a₁ ≡ i + 1 = simp bytes-length in
-        let f₃ : i + length a₂ ≡ i + 2 = simp (length-append, bytes-length) in
-        let f₄ : i + length a₃ ≡ i + 4 = simp (length-append, bytes-length) in
-        let e₁ : le 1 b i ≡ t = le-at b i 1 t (omega arith) (at-left b i a₁ (bytes 1 (r - 1)) q₂) in
-        let e₂ : le 1 b (i + 1) ≡ r - 1 = le-at b (i + 1) 1 (r - 1) (omega arith) (at-behind b i (i + 1) a₁ (bytes 1 (r - 1)) q₂ f₂) in
-        let e₃ : le 2 b (i + 2) ≡ d = le-at b (i + 2) 2 d (omega arith) (at-behind b i (i + 2) a₂ (bytes 2 d) q₃ f₃) in
-        let e₄ : le 4 b (i + 4) ≡ g = le-at b (i + 4) 4 g (omega arith) (at-behind b i (i + 4) a₃ (bytes 4 g) q₄ f₄) in
+        let w = row-read b t i p n q in
         let u : r - 1 + 1 ≡ r = omega arith in
         let v : 3 * t + 2 ≡ suc (suc (3 * t)) = omega arith in
-        sym (enter-in b i xs t (r - 1) d g (sym e₁) (sym e₂) (sym e₃) (sym e₄) p) ∙ rw (u, add-one (3 * t)) (rw v refl)
+        sym (enter-in b i xs t (r - 1) (getD ts (3 * t + 1) 0) (getD ts (3 * t + 2) 0) (sym (w .id)) (sym (w .supervisor)) (sym (w .domain)) (sym (w .handle)) p)
+        ∙ rw (u, add-one (3 * t)) (rw v refl)
 
     threads-step : (t : ℕ) → t ≤ 64 → At b at (cat (threadBytes ts) t) → entered b at z (live ts t) ≡ sets z 0 (cat (triple ts) t)
     unfolding cat live entered
@@ -259,36 +281,50 @@ pub record Back (b os ts ss r : List ℕ) : Type 0 where
   pub slots : readSlots b ≡ ss
   pub rest : drop (totalOf b) b ≡ r
 
--- what is written is read, whatever stands behind
-pub read-written : (os ts ss r : List ℕ) → Sound os ts ss → Back (encode os ts ss ++ r) os ts ss r
-unfolding readThreads readSlots encode
-read-written os ts ss r k =
-    let b : List ℕ = encode os ts ss ++ r in
+-- where the parts of an image stand
+pub record Laid (b os ts ss : List ℕ) : Type 0 where
+  pub header : Header b (top os 256) (live ts 64)
+  pub objects : At b 16 (cat (objectBytes os) (top os 256))
+  pub threads : At b (16 + 12 * top os 256) (cat (threadBytes ts) 64)
+  pub domains : At b (16 + 12 * top os 256 + 8 * live ts 64) (domainsBytes ss)
+
+pub laid : (b os ts ss : List ℕ) → At b 0 (encode os ts ss) → Laid b os ts ss
+unfolding encode
+laid b os ts ss q₄ =
     let m : ℕ = top os 256 in
     let n : ℕ = live ts 64 in
-    let pm : m ≤ 256 = top-most os 256 in
-    let pn : n ≤ 64 = live-most ts 64 in
     let a₁ : List ℕ = header m n in
     let a₂ : List ℕ = a₁ ++ cat (objectBytes os) m in
     let a₃ : List ℕ = a₂ ++ cat (threadBytes ts) 64 in
-    let q₄ : At b 0 (a₃ ++ domainsBytes ss) = at-start (encode os ts ss) r in
     let q₃ : At b 0 a₃ = at-left b 0 a₃ (domainsBytes ss) q₄ in
     let q₂ : At b 0 a₂ = at-left b 0 a₂ (cat (threadBytes ts) 64) q₃ in
     let f₁ : 0 + length a₁ ≡ 16 = rw header-length refl in
     let co : length (cat (objectBytes os) m) ≡ 12 * m = cat-length (objectBytes os) 12 m (object-length os) in
     let f₂ : 0 + length a₂ ≡ 16 + 12 * m = simp (length-append, header-length) (omega arith) in
     let f₃ : 0 + length a₃ ≡ 16 + 12 * m + 8 * n = simp (length-append, header-length, threads-length) (omega arith) in
-    let hd : Header b m n = header-back b m n pm pn (at-left b 0 a₁ (cat (objectBytes os) m) q₂) in
-    let eo : readObjects b ≡ os = objects-back k b (hd .objects) (at-behind b 0 16 a₁ (cat (objectBytes os) m) q₂ f₁) in
+    record {
+      header = header-back b m n (top-most os 256) (live-most ts 64) (at-left b 0 a₁ (cat (objectBytes os) m) q₂);
+      objects = at-behind b 0 16 a₁ (cat (objectBytes os) m) q₂ f₁;
+      threads = at-behind b 0 (16 + 12 * m) a₂ (cat (threadBytes ts) 64) q₃ f₂;
+      domains = at-behind b 0 (16 + 12 * m + 8 * n) a₃ (domainsBytes ss) q₄ f₃;
+    }
+
+-- what is written is read, whatever stands behind
+pub read-written : (os ts ss r : List ℕ) → Sound os ts ss → Back (encode os ts ss ++ r) os ts ss r
+unfolding readThreads readSlots
+read-written os ts ss r k =
+    let b : List ℕ = encode os ts ss ++ r in
+    let m : ℕ = top os 256 in
+    let n : ℕ = live ts 64 in
+    let l = laid b os ts ss (at-start (encode os ts ss) r) in
+    let hd : Header b m n = l .header in
+    let eo : readObjects b ≡ os = objects-back k b (hd .objects) (l .objects) in
     let et : readThreads b ≡ ts =
-    rw (hd .objects, hd .threads)
-    (threads-back k b (16 + 12 * m) (zeros 192) refl (λ i p. zeros-three 192 i p)
-    (at-behind b 0 (16 + 12 * m) a₂ (cat (threadBytes ts) 64) q₃ f₂)) in
-    let es : readSlots b ≡ ss =
-    rw (hd .objects, hd .threads) (domains-back b ss (16 + 12 * m + 8 * n) (k .fit .slots) (number-fits k) (at-behind b 0 (16 + 12 * m + 8 * n) a₃ (domainsBytes ss) q₄ f₃)) in
+    rw (hd .objects, hd .threads) (threads-back k b (16 + 12 * m) (zeros 192) refl (λ i p. zeros-three 192 i p) (l .threads)) in
+    let es : readSlots b ≡ ss = rw (hd .objects, hd .threads) (domains-back b ss (16 + 12 * m + 8 * n) (k .fit .slots) (number-fits k) (l .domains)) in
     let ln : length (encode os ts ss) ≡ totalOf b = encode-length os ts ss ∙ sym (hd .total-is) in
     let en : take (totalOf b) b ≡ encode os ts ss = rw (← ln) (at-start (encode os ts ss) r) in
-    let hc : headed b 0 ≡ 0 = head-good b m n pm pn (rw (length-append, encode-length) (omega arith)) hd in
+    let hc : headed b 0 ≡ 0 = head-good b m n (top-most os 256) (live-most ts 64) (rw (length-append, encode-length) (omega arith)) hd in
     let ac : accepted b ≡ true = rw (eo, et, es) (is-image b (totalOf b) os ts ss k (sym en)) in
     record {
       answer = ok-image b hc ac;
