@@ -195,12 +195,12 @@ module _ (b : List ℕ) (h : Below 256 b) (at : ℕ) (z : List ℕ) (lz : length
   abbrev row : ℕ → List ℕ
   row p = (le 1 b (p + 1) + 1) ∷ le 2 b (p + 2) ∷ le 4 b (p + 4) ∷ []
 
-  long : (n : ℕ) → ((i : ℕ) → i < n → id i < 64) → length (entered b at z n) ≡ 192
+  pub entered-long : (n : ℕ) → ((i : ℕ) → i < n → id i < 64) → length (entered b at z n) ≡ 192
   unfolding entered
-  long zero f = lz
-  long (suc n) f =
+  entered-long zero f = lz
+  entered-long (suc n) f =
       rw (enters (at + 8 * n) (entered b at z n) (f n (omega arith)))
-      (length-sets (entered b at z n) (3 * id n) (row (at + 8 * n)) ∙ long n (λ i q. f i (omega arith)))
+      (length-sets (entered b at z n) (3 * id n) (row (at + 8 * n)) ∙ entered-long n (λ i q. f i (omega arith)))
 
   -- whose id is above all that were read is dead
   quiet : (n : ℕ) → ((i : ℕ) → i < n → id i < 64) → (t : ℕ) → ((i : ℕ) → i < n → id i < t) → getD (entered b at z n) (3 * t) 0 ≡ 0
@@ -226,7 +226,7 @@ module _ (b : List ℕ) (h : Below 256 b) (at : ℕ) (z : List ℕ) (lz : length
       let e : entered b at z (suc n) ≡ new = enters p old (f n (omega arith)) in
       let xt : x < t = g n (omega arith) in
       let x64 : x < 64 = f n (omega arith) in
-      let m : length old ≡ 192 = long n (λ i q. f i (omega arith)) in
+      let m : length old ≡ 192 = entered-long n (λ i q. f i (omega arith)) in
       let later : cat (threadBytes new) t ≡ cat (threadBytes new) (suc x) =
       cat-stays (threadBytes new) (suc x) t xt
       (λ k q.

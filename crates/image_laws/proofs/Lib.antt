@@ -2,3 +2,4 @@ pub mod Fits
 pub mod Place
 pub mod Round
 pub mod Again
+pub mod Document

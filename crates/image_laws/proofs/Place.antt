@@ -88,6 +88,9 @@ three xs i h =
 abbrev pub zeros : ℕ → List ℕ
 zeros n = replicate n 0
 
+pub zeros-long : (n : ℕ) → length (zeros n) ≡ n
+zeros-long n = length-replicate n 0
+
 pub zeros-at : (n i : ℕ) → getD (zeros n) i 0 ≡ 0
 zeros-at zero i = refl
 zeros-at (suc n) zero = refl
