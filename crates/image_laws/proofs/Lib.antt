@@ -3,3 +3,5 @@ pub mod Place
 pub mod Round
 pub mod Again
 pub mod Document
+pub mod Lengths
+pub mod Promises
