@@ -134,17 +134,21 @@ module _ (b os ts ss : List ℕ) where
     unfolding readCode imageCode
     wrong-head a e n = refused a (e ∙ sym (rw z (head-stops b _ (λ q. n (e ∙ q))))) n
 
-    pub wrong-contents : headed b 0 ≡ 0 → accepted b ≡ false → ReadIs b os ts ss os ts ss [] (numberOf Value)
-    unfolding readCode imageCode
-    wrong-contents e h = refused (numberOf Value) (sym (rw (z, h) (head-passes b (numberOf Value) e))) (λ q. omega arith)
+    -- behind a good header: whether the contents are fine decides what stands in the tables
+    module _ (e : headed b 0 ≡ 0) {fine : Bool} (h : fine ≡ accepted b) (o t s : List ℕ) {os′ ts′ ss′ : List ℕ} (eo : os′ ≡ cond fine o os) (et : ts′ ≡ cond fine t ts) (es : ss′ ≡ cond fine s ss) where
+      pub wrong-contents : fine ≡ false → ReadIs b os ts ss os′ ts′ ss′ [] (numberOf Value)
+      unfolding readCode imageCode
+      wrong-contents f =
+          let n : accepted b ≡ false = sym h ∙ f in
+          rw (eo, et, es, f) (refused (numberOf Value) (sym (rw (z, n) (head-passes b (numberOf Value) e))) (λ q. omega arith))
 
-    pub right :
-        headed b 0 ≡ 0 → accepted b ≡ true → {os′ ts′ ss′ rest : List ℕ} → os′ ≡ readObjects b → ts′ ≡ readThreads b → ss′ ≡ readSlots b → rest ≡ drop (totalOf b) b →
-        ReadIs b os ts ss os′ ts′ ss′ rest (numberOf Ok)
-    unfolding readCode imageCode
-    right e h eo et es er =
-        let q : readCode b os ts ss ≡ 0 = rw (z, h) (head-passes b (numberOf Ok) e) in
-        record { answer = sym q; rest = rw q er; objects = rw q eo; threads = rw q et; slots = rw q es }
+      pub right :
+          fine ≡ true → {part : List ℕ} → o ≡ readObjects b → t ≡ readThreads b → s ≡ readSlots b → part ≡ drop (totalOf b) b → ReadIs b os ts ss os′ ts′ ss′ part (numberOf Ok)
+      unfolding readCode imageCode
+      right f {part} ro rt rs rp =
+          let n : accepted b ≡ true = sym h ∙ f in
+          let q : readCode b os ts ss ≡ 0 = rw (z, n) (head-passes b (numberOf Ok) e) in
+          record { answer = sym q; rest = rw q rp; objects = rw q (eo ∙ rw f ro); threads = rw q (et ∙ rw f rt); slots = rw q (es ∙ rw f rs) }
 
 -- ---- the writer's word on the scratch
 

@@ -131,7 +131,8 @@ pub record Fresh (b os ts ss : List ℕ) : Type 0 where
   pub threads : ts ≡ replicate (3 * THREADS) 0
   pub slots : length ss ≡ 384
 
-pub record Decoded (b os ts ss : List ℕ) : Type 0 where
+pub record Decoded (b os ts ss : List ℕ) (end : ℕ) : Type 0 where
   pub objects : os ≡ readObjects b
   pub threads : ts ≡ readThreads b
   pub slots : ss ≡ readSlots b
+  pub place : end ≡ totalOf b

@@ -2,6 +2,7 @@
 // The tables are read off into scratch, judged by the rules, written once more and compared with the bytes, and only then copied: so an image is
 // accepted exactly when it is what the writer writes of a state that keeps the rules, and a refusal changes nothing.
 ghost use mathlib.Core.Path.{_≡_};
+ghost use mathlib.Core.Bool.{cond};
 ghost use Prim.Native.Nat.{_+_, _*_, _≤_, _<_, _^_};
 ghost use lib.ListN.{length};
 ghost use lib.Seq.{sets};
@@ -161,7 +162,8 @@ fn fields_ok(m: u64, n: u64, d: u64, t: u64) -> bool
     if d != DOMAIN_COUNT {
         return false;
     }
-    t == LEAST_TOTAL + EACH_OBJECT * m + EACH_THREAD * n
+    let sum = LEAST_TOTAL + EACH_OBJECT * m + EACH_THREAD * n;
+    t == sum
 }
 
 // What the header answers.
@@ -187,10 +189,14 @@ fn head_code(image: &[u8]) -> u32
     answer::OK
 }
 
-fn copy64(src: &[u64], dst: &mut [u64])
+// A table is taken over only where the image is fine.
+fn copy64(fine: bool, src: &[u64], dst: &mut [u64])
     requires { ⌜ length (now src) ≡ length (now dst) ⌝ }
-    ensures { λ _. ⌜ now (dst .exit) ≡ now (src .entry) ⌝ }
+    ensures { λ _. ⌜ now (dst .exit) ≡ cond fine (now (src .entry)) (now (dst .entry)) ⌝ }
 {
+    if !fine {
+        return;
+    }
     let mut i = 0;
     while i < src.len() {
         dst[i] = src[i];
@@ -198,10 +204,13 @@ fn copy64(src: &[u64], dst: &mut [u64])
     }
 }
 
-fn copy32(src: &[u32], dst: &mut [u32])
+fn copy32(fine: bool, src: &[u32], dst: &mut [u32])
     requires { ⌜ length (now src) ≡ length (now dst) ⌝ }
-    ensures { λ _. ⌜ now (dst .exit) ≡ now (src .entry) ⌝ }
+    ensures { λ _. ⌜ now (dst .exit) ≡ cond fine (now (src .entry)) (now (dst .entry)) ⌝ }
 {
+    if !fine {
+        return;
+    }
     let mut i = 0;
     while i < src.len() {
         dst[i] = src[i];
@@ -209,16 +218,17 @@ fn copy32(src: &[u32], dst: &mut [u32])
     }
 }
 
-// Reads the tables off an image with a good header.
-fn decode(image: &[u8], objects: &mut [u64], threads: &mut [u32], slots: &mut [u32])
+// Reads the tables off an image with a good header, and hands back the place behind it.
+fn decode(image: &[u8], objects: &mut [u64], threads: &mut [u32], slots: &mut [u32]) -> usize
     requires { ⌜ Fresh (now image) (now objects) (now threads) (now slots) ⌝ }
-    ensures { λ _. ⌜ Decoded (now (image .entry)) (now (objects .exit)) (now (threads .exit)) (now (slots .exit)) ⌝ }
+    ensures { λ r. ⌜ Decoded (now (image .entry)) (now (objects .exit)) (now (threads .exit)) (now (slots .exit)) r ⌝ }
 {
     let m = get(image, 8, 2) as usize;
     let n = get(image, 10, 1) as usize;
     get_objects(image, objects, m);
     get_threads(image, HEADER + OBJECT * m, threads, n);
     get_domains(image, HEADER + OBJECT * m + THREAD * n, slots);
+    LEAST + OBJECT * m + THREAD * n
 }
 
 // Whether the tables keep the rules and the first t bytes are what the writer makes of them: the writer judges, and what it writes is compared.
@@ -269,15 +279,15 @@ pub fn read<'a>(
     let mut o = [0u64; OBJECT_NUMBERS];
     let mut h = [0u32; THREAD_NUMBERS];
     let mut s = [0u32; SLOT_NUMBERS];
-    decode(image, &mut o, &mut h, &mut s);
-    let t = get(image, 12, 4) as usize;
-    if !is_image(image, t, &o, &h, &s) {
+    let end = decode(image, &mut o, &mut h, &mut s);
+    let fine = is_image(image, end, &o, &h, &s);
+    copy64(fine, &o, objects);
+    copy32(fine, &h, threads);
+    copy32(fine, &s, slots);
+    if !fine {
         *answer = answer::VALUE;
         return &image[..0];
     }
-    copy64(&o, objects);
-    copy32(&h, threads);
-    copy32(&s, slots);
     *answer = answer::OK;
-    &image[t..]
+    &image[end..]
 }
