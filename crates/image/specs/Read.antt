@@ -1,6 +1,6 @@
 -- What is read off an image, by the layout that `encode` writes; which images are accepted; and what the reader promises. Document 01, "Image", with
 -- readings 16 and 17. That the paper's own sentences hold of an accepted image, and that no other is refused, is image_laws/proofs/Document.antt.
-use Prim.Native.Nat.{ℕ, zero, suc, _+_, _*_, _≤_}
+use Prim.Native.Nat.{ℕ, zero, suc, _+_, _*_}
 use mathlib.Core.Path.{_≡_}
 use mathlib.Core.Bool.{Bool, true, false, cond, not, _&&_}
 use mathlib.Core.List.{List, [], _∷_}

@@ -1,25 +1,24 @@
 -- Bytes that are read and written again: a list of bytes is what its numbers spell. So of an image whose sentences hold, `encode` gives the bytes back.
 use mathlib.Core.Path.{_≡_, refl, sym, ap, _∙_}
 use Prim.Native.Nat.{ℕ, zero, suc, _+_, _*_, _/_, _%_, _^_, _≤_, _<_, _-_}
-use native.Mathlib.Nat.{pow-suc, mul-suc, le-refl, lt-of-lt-of-le, zero-add, mul-assoc}
-use native.Mathlib.Numerals.{add-one}
-use native.Mathlib.Decide.{decLe, decLt, ℕ-discrete}
+use native.Mathlib.Nat.{pow-suc, mul-suc, lt-of-lt-of-le, zero-add, mul-assoc}
+use native.Mathlib.Decide.{decLe}
 use native.Mathlib.Omega.{arith}
-use mathlib.Core.Logic.{_≢_, inl, inr}
+use mathlib.Core.Logic.{_≢_, inr}
 use mathlib.Core.List.{List, [], _∷_, _++_, append-nil}
 use mathlib.Core.Bool.{false, cond}
 use lib.Dec.{eqb}
-use lib.ListN.{length, take, drop, getD, length-append, length-take, length-drop, length-replicate}
+use lib.ListN.{length, take, drop, getD, length-take, length-drop}
 use lib.Seq.{sets, length-sets, take-add, drop-drop, take-length, take-all, length-take-le, getD-take, getD-drop}
 use borrow.Author.Tests.{lt-ltb, eq-eqb, ne-eqb}
-use Rattle.tables.specs.Rows.{at3, at3-same, at3-other, getD-sets-out, getD-sets-in}
+use Rattle.tables.specs.Rows.{at3-same, at3-other, getD-sets-out, getD-sets-in}
 use Rattle.image_write.specs.Bytes.{bytes, value, le, cat}
 use Rattle.image_write.specs.Encode.{objectBytes, threadBytes, slotBytes, domainBytes, domainPart, domainsBytes, top, live}
-use Rattle.image_write.proofs.Bytes.{bytes-length, cat-length, cat-same}
+use Rattle.image_write.proofs.Bytes.{cat-length, cat-same}
 use Rattle.image_write.proofs.Turns.{thread-dead, threads-length}
 use Rattle.image.specs.Read.{objectIn, enter, entered, domainOf, domainIn, domainsIn}
 use Rattle.image.proofs.Turns.{pow-most, domain-length}
-use Rattle.image_laws.proofs.Place.{At, at-cat, groups, zeros, zeros-at}
+use Rattle.image_laws.proofs.Place.{At, at-cat, groups}
 
 -- every number of a list is below k; a list of bytes is one below 256
 abbrev pub Below : ℕ → List ℕ → Type 0

@@ -1,17 +1,15 @@
 -- Which images are accepted, twice: those that begin with the image of a state that keeps the rules (`Starts`), and those of which each of document 01's
 -- sentences holds (`Document`). Both say the same as the answer OK.
 use mathlib.Core.Path.{_≡_, refl, sym, ap, _∙_}
-use Prim.Native.Nat.{ℕ, zero, suc, _+_, _*_, _/_, _%_, _^_, _≤_, _<_, _-_}
+use Prim.Native.Nat.{ℕ, zero, suc, _+_, _*_, _%_, _≤_, _<_, _-_}
 use native.Mathlib.Nat.{le-refl}
-use native.Mathlib.Decide.{decLe, decLt, ℕ-discrete}
+use native.Mathlib.Decide.{decLt, ℕ-discrete}
 use native.Mathlib.Omega.{arith}
 use mathlib.Core.Logic.{_≢_, _↔_}
-use mathlib.Core.Bool.{true}
-use mathlib.Core.List.{List, _∷_, _++_}
-use lib.ListN.{length, take, drop, getD, replicate, length-replicate, take-append-drop}
+use mathlib.Core.List.{List, _++_}
+use lib.ListN.{length, take, drop, getD, take-append-drop}
 use lib.Seq.{sets, length-sets, take-add, length-take-le}
 use borrow.Author.Tests.{eq-eqb, ne-eqb}
-use Rattle.mem_domain.specs.Domain.{slots as SLOTS}
 use Rattle.userspace.specs.Userspace.{THREADS}
 use Rattle.tables.specs.Table.{HANDLES, DOMAINS}
 use Rattle.tables.specs.State.{stateOf, Fit}
@@ -19,13 +17,13 @@ use Rattle.rules.specs.Rules.{Keeps, Sound}
 use Rattle.image_write.specs.Bytes.{bytes, le, cat, magic}
 use Rattle.image_write.specs.Encode.{objectBytes, threadBytes, domainsBytes, top, live, total, header, encode}
 use Rattle.image_write.proofs.Bytes.{cat-length, cat-mono}
-use Rattle.image_write.proofs.Turns.{live-more, live-same, object-length, threads-length, encode-length, top-most, live-most}
-use Rattle.image.specs.Read.{objectCount, threadCount, domainCount, totalOf, threadsPlace, domainsPlace, objectIn, readObjects, entered, readThreads, domainIn, domainsIn, readSlots, headed, accepted, imageCode}
+use Rattle.image_write.proofs.Turns.{object-length, threads-length, top-most}
+use Rattle.image.specs.Read.{objectCount, threadCount, domainCount, totalOf, threadsPlace, domainsPlace, objectIn, readObjects, entered, readThreads, domainIn, domainsIn, readSlots, imageCode}
 use Rattle.image.proofs.Turns.{domain-length}
 use Rattle.image.proofs.Answers.{HeadIs, head-is}
 use Rattle.image_laws.proofs.Fits.{head-fits, free-head, thread-fits}
 use Rattle.image_laws.proofs.Place.{At, at-cat, at-part, zeros, zeros-long, zeros-at}
-use Rattle.image_laws.proofs.Round.{Laid, laid, Header, head-good, head-read, row-read, RowAt, Back, read-written, read-sound, written-read, image-ok, ok-image, is-image}
+use Rattle.image_laws.proofs.Round.{Laid, laid, Header, head-good, head-read, row-read, RowAt, read-written, read-sound, written-read, image-ok, ok-image, is-image}
 use Rattle.image_laws.proofs.Again.{Below, le-below, le-split, again, joined, head-at, free-behind, objects-again, top-is, entered-long, threads-again, live-again, domains-again}
 
 -- ---- the first description

@@ -1,11 +1,11 @@
 -- What the rules give to the image: each number of a state that keeps them fits the bytes that it is written in, and what is not written is zero.
 use Prim.Native.Nat.{ℕ, zero, suc, _+_, _*_, _/_, _%_, _^_, _≤_, _<_}
-use native.Mathlib.Nat.{le-refl, le-trans, lt-of-le-of-lt}
+use native.Mathlib.Nat.{le-refl, lt-of-le-of-lt}
 use native.Mathlib.Decide.{ℕ-discrete}
 use native.Mathlib.Omega.{arith}
 use mathlib.Core.Path.{_≡_, refl, sym, ap, _∙_}
-use mathlib.Core.Logic.{_⊎_, inl, inr, ⊎-elim}
-use mathlib.Core.Bool.{Bool, true, false, cond, not, _||_}
+use mathlib.Core.Logic.{_⊎_, ⊎-elim}
+use mathlib.Core.Bool.{Bool, true, false, cond, not}
 use mathlib.Core.List.{List}
 use lib.Bits.{and-le-r}
 use lib.Dec.{eqb, lit<}
@@ -19,7 +19,6 @@ use Rattle.mem_domain.specs.Partition.{empty, isActive, isValid}
 use Rattle.mem_domain.specs.declared.MemPartition.{MemPartition}
 use Rattle.mem_domain.proofs.Partition.{valid-end}
 use Rattle.userspace.specs.Bit.{setBit, set-lt}
-use Rattle.userspace.specs.Userspace.{THREADS}
 use Rattle.tables.specs.Tabulate.{getD-tabulate}
 use Rattle.tables.specs.Table.{HANDLES, DOMAINS, objectAt, threadAt, partitionAt, partitionsAt}
 use Rattle.tables.specs.State.{stateOf, object, thread, domain, object-of, thread-of, domain-of}

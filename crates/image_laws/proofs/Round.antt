@@ -6,16 +6,14 @@ use native.Mathlib.Nat.{le-refl, zero-add}
 use native.Mathlib.Numerals.{add-one}
 use native.Mathlib.Decide.{decLt, ℕ-discrete}
 use native.Mathlib.Omega.{arith}
-use mathlib.Core.Bool.{Bool, true, false, cond, not, _&&_}
+use mathlib.Core.Bool.{Bool, true, false, cond}
 use mathlib.Core.List.{List, [], _∷_, _++_, append-assoc}
-use lib.Dec.{eqb, leb, ltb}
 use lib.ListN.{length, take, drop, getD, length-append, length-drop, take-append-drop, length-replicate}
 use lib.Seq.{sets, take-all, take-length, drop-at, length-take-le, getD-take, getD-drop}
 use borrow.Author.Tests.{le-ltb, le-leb, eq-eqb, ne-eqb}
 use Rattle.answer.specs.Answer.{numberOf}
-use Rattle.answer.specs.declared.Answer.{Answer}
 use Rattle.answer.specs.declared.Code.the-variants.{Ok, Value}
-use Rattle.domain_rules.proofs.All.{both-true, both}
+use Rattle.domain_rules.proofs.All.{both-true}
 use Rattle.rules.specs.Rules.{Sound, keepsTest}
 use Rattle.rules.proofs.Rules.{test-sound, sound-test}
 use Rattle.image_write.specs.Bytes.{bytes, le, cat, magic}

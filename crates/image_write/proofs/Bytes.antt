@@ -1,15 +1,13 @@
 -- Laws of bytes, of records one behind the other, and of runs of stores: what every loop that writes or reads an image cites.
-use Prim.Native.Nat.{ℕ, zero, suc, _+_, _*_, _/_, _%_, _^_, _≤_, _<_, _-_}
+use Prim.Native.Nat.{ℕ, zero, suc, _+_, _*_, _/_, _%_, _≤_, _<_, _-_}
 use native.Mathlib.Nat.{add-zero, add-sub-cancel-left, mul-suc, le-refl, zero-add}
 use native.Mathlib.Numerals.{add-one}
-use native.Mathlib.Decide.{decLe, ℕ-discrete}
+use native.Mathlib.Decide.{decLe}
 use native.Mathlib.Omega.{arith}
 use mathlib.Core.Path.{_≡_, refl, sym, ap, _∙_}
-use mathlib.Core.Bool.{cond}
 use mathlib.Core.List.{List, [], _∷_, _++_, append-assoc, append-nil}
 use lib.ListN.{length, take, drop, getD, set, length-append, length-drop}
-use lib.Dec.{eqb}
-use lib.Seq.{sets, sets-eq, take-at, drop-cons, drop-length, drop-drop, take-all, length-take-le}
+use lib.Seq.{sets, sets-eq, take-at, drop-cons, drop-length, drop-drop, length-take-le}
 use Rattle.image_write.specs.Bytes.{bytes, cat}
 
 pub bytes-length : (n v : ℕ) → length (bytes n v) ≡ n

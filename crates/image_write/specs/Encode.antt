@@ -91,7 +91,7 @@ pub record Tables (os ts ss : List ℕ) : Type 0 where
   pub slots : length ss ≡ 384
 
 -- m and n are the counts, and the buffer is large enough
-pub record Fits (os ts ss out : List ℕ) (m n : ℕ) : Type 0 where
+pub record Roomy (os ts ss out : List ℕ) (m n : ℕ) : Type 0 where
   pub tables : Tables os ts ss
   pub m-is : m ≡ top os HANDLES
   pub m-most : m ≤ HANDLES

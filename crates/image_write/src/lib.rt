@@ -7,7 +7,7 @@ ghost use Prim.Native.Nat.{_+_, _*_, _-_, _<_, _≤_};
 ghost use lib.ListN.{length, take, drop};
 ghost use lib.Seq.{sets};
 ghost use Rattle.image_write.specs.Bytes.{bytes, cat, magic};
-ghost use Rattle.image_write.specs.Encode.{objectBytes, threadBytes, domainBytes, domainsBytes, top, live, header, encode, Written, Fits};
+ghost use Rattle.image_write.specs.Encode.{objectBytes, threadBytes, domainBytes, domainsBytes, top, live, header, encode, Written, Roomy};
 use answer::Answer;
 use tables::DOMAINS;
 use tables::HANDLES;
@@ -196,7 +196,7 @@ fn put_domains(out: &mut [u8], at: usize, slots: &[u32])
 
 // The whole image, of m objects and n threads.
 fn put_image(objects: &[u64], threads: &[u32], slots: &[u32], out: &mut [u8], m: usize, n: usize)
-    requires { ⌜ Fits (now objects) (now threads) (now slots) (now out) m n ⌝ }
+    requires { ⌜ Roomy (now objects) (now threads) (now slots) (now out) m n ⌝ }
     ensures { λ _. ⌜ now (out .exit) ≡ sets (now (out .entry)) 0 (encode (now (objects .entry)) (now (threads .entry)) (now (slots .entry))) ⌝ }
 {
     let a = HEADER + OBJECT * m;

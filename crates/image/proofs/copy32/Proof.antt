@@ -1,6 +1,5 @@
-use mathlib.Core.Path.{_≡_, refl, sym, ap, _∙_}
-use mathlib.Core.List.{List}
-use Prim.Native.Nat.{ℕ, _-_, _≤_}
+use mathlib.Core.Path.{_≡_, refl, sym, _∙_}
+use Prim.Native.Nat.{_-_, _≤_}
 use native.Mathlib.Omega.{arith}
 use lib.ListN.{length, drop, length-set}
 use lib.Seq.{sets, drop-length}
@@ -8,8 +7,6 @@ use borrow.Author.Tests.{not-true, not-false}
 use Rattle.image_write.proofs.Bytes.{copy-turn, sets-all}
 use Rattle.image.proofs.copy32.Statement.{statement}
 use Rattle.image.proofs.copy32.Tie as tie
-use Rattle.image.proofs.copy32.Reads as reads
-use Rattle.image.proofs.copy32.Lts as lts
 
 abbrev Inv-loop : tie.InvT-loop
 Inv-loop fine src dst₀ i₀ dst i = (i ≤ length src) × ((length dst ≡ length dst₀) × (sets dst i (drop i src) ≡ sets dst₀ 0 src))

@@ -1,17 +1,11 @@
 use lib.ListN.{length}
-use Rattle.image.specs.Read.{readObjects, readThreads, readSlots, Decoded}
-use mathlib.Core.Path.{_≡_, refl, sym, ap, _∙_}
+use Rattle.image.specs.Read.{readObjects, readThreads, readSlots}
+use mathlib.Core.Path.{refl, ap, _∙_}
 use native.Mathlib.Omega.{arith}
 use Rattle.image.proofs.Answers.{head-is}
 use borrow.Author.Needs.{needs}
 use Rattle.image.proofs.decode.Statement.{statement}
 use Rattle.image.proofs.decode.Tie as tie
-use Rattle.image.proofs.decode.Reads as reads
-use Rattle.image.proofs.decode.Lts as lts
-use Rattle.image.proofs.get.Reads as get-reads
-use Rattle.image.proofs.get_domains.Reads as get-domains-reads
-use Rattle.image.proofs.get_objects.Reads as get-objects-reads
-use Rattle.image.proofs.get_threads.Reads as get-threads-reads
 
 -- src/lib.rt:226:13
 get-requires : tie.Need-get-requires

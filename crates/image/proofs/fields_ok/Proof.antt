@@ -1,11 +1,8 @@
-use mathlib.Core.Path.{_≡_, refl, sym, ap, _∙_}
 use borrow.Author.Tests.{le-leb, lt-leb, eq-eqb, ne-eqb}
 use Rattle.image.specs.Read.{fieldsOk}
 use borrow.Author.Needs.{needs}
 use Rattle.image.proofs.fields_ok.Statement.{statement}
 use Rattle.image.proofs.fields_ok.Tie as tie
-use Rattle.image.proofs.fields_ok.Reads as reads
-use Rattle.image.proofs.fields_ok.Lts as lts
 
 -- src/lib.rt:157:9
 returns : tie.Need-returns

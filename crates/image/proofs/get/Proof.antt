@@ -1,17 +1,13 @@
 -- `img::get`: the invariant: r is the number of the bytes from k on. Assumes nothing.
-use mathlib.Core.Path.{_≡_, refl, sym, ap, _∙_, subst}
-use Prim.Native.Nat.{ℕ, suc, _+_, _*_, _-_, _^_, _≤_, _<_}
+use mathlib.Core.Path.{_≡_, refl}
+use Prim.Native.Nat.{_+_, _-_, _^_, _≤_, _<_}
 use native.Mathlib.Omega.{arith}
 use native.Mathlib.Nat.{sub-self, sub-zero, add-zero}
-use lib.ListN.{length, take, drop, getD}
 use borrow.Author.Needs.{needs}
 use Rattle.image_write.specs.Bytes.{value, le}
 use Rattle.image.proofs.Turns.{get-turn, get-most, get-fits}
 use Rattle.image.proofs.get.Statement.{statement}
 use Rattle.image.proofs.get.Tie as tie
-use Rattle.image.proofs.get.Reads as reads
-use Rattle.image.proofs.get.Lts as lts
-use Rattle.image.proofs.wide.Reads as wide-reads
 
 abbrev Inv-loop : tie.InvT-loop
 Inv-loop s at n r₀ k₀ r k = (k ≤ n) × ((r ≡ le (n - k) s (at + k)) × (r < 256 ^ (n - k)))

@@ -1,22 +1,16 @@
 use Rattle.image_write.proofs.Bytes.{cat-length}
 use Rattle.image.proofs.Turns.{cat-turn-1}
-use Rattle.image_write.proofs.Bytes.{cat-turn, sets-all}
+use Rattle.image_write.proofs.Bytes.{sets-all}
 use Rattle.image.specs.Read.{domainOf}
-use Rattle.image_write.specs.Bytes.{bytes, value, le, cat}
-use mathlib.Core.Path.{_≡_, refl, sym, ap, _∙_, subst}
-use mathlib.Core.List.{List, [], _∷_, _++_}
-use mathlib.Core.Bool.{Bool, true, false}
-use Prim.Native.Nat.{ℕ, zero, suc, _+_, _*_, _-_, _^_, _≤_, _<_}
+use Rattle.image_write.specs.Bytes.{le, cat}
+use mathlib.Core.Path.{_≡_, refl, sym, ap, _∙_}
+use mathlib.Core.List.{List, [], _∷_}
+use Prim.Native.Nat.{ℕ, _*_, _-_, _≤_}
 use native.Mathlib.Omega.{arith}
-use native.Mathlib.Nat.{sub-zero, add-zero}
-use lib.ListN.{length, take, drop, getD, set, length-set}
-use lib.Seq.{sets, length-sets}
-use borrow.Author.Needs.{needs}
+use lib.ListN.{length, set, length-set}
+use lib.Seq.{sets}
 use Rattle.image.proofs.get_domain.Statement.{statement}
 use Rattle.image.proofs.get_domain.Tie as tie
-use Rattle.image.proofs.get_domain.Reads as reads
-use Rattle.image.proofs.get_domain.Lts as lts
-use Rattle.image.proofs.get.Reads as get-reads
 
 abbrev Inv-loop : tie.InvT-loop
 Inv-loop rec slots₀ k₀ slots k = (k ≤ 48) × ((length slots ≡ 48) × (slots ≡ sets slots₀ 0 (cat (λ (j : ℕ). le 4 rec (4 * j) ∷ []) k)))

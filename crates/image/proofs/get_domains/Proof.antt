@@ -1,22 +1,15 @@
 use Rattle.image_write.proofs.Bytes.{cat-length}
 use Rattle.image.proofs.Turns.{domain-length, domains-turn}
-use Rattle.image_write.proofs.Bytes.{cat-turn, sets-all, part-home, part-length}
-use Rattle.image.specs.Read.{domainOf, domainIn, domainsIn}
-use Rattle.image_write.specs.Bytes.{bytes, value, le, cat, magic}
-use mathlib.Core.Path.{_≡_, refl, sym, ap, _∙_, subst}
-use mathlib.Core.List.{List, [], _∷_, _++_}
-use mathlib.Core.Bool.{Bool, true, false}
-use Prim.Native.Nat.{ℕ, zero, suc, _+_, _*_, _-_, _^_, _≤_, _<_}
+use Rattle.image_write.proofs.Bytes.{sets-all, part-length}
+use Rattle.image.specs.Read.{domainIn, domainsIn}
+use Rattle.image_write.specs.Bytes.{cat}
+use mathlib.Core.Path.{_≡_, refl, sym, ap, _∙_}
+use Prim.Native.Nat.{_+_, _*_, _-_, _≤_}
 use native.Mathlib.Omega.{arith}
-use native.Mathlib.Nat.{sub-zero, add-zero}
-use lib.ListN.{length, take, drop, getD, set, length-set}
+use lib.ListN.{length}
 use lib.Seq.{sets, length-sets}
-use borrow.Author.Needs.{needs}
 use Rattle.image.proofs.get_domains.Statement.{statement}
 use Rattle.image.proofs.get_domains.Tie as tie
-use Rattle.image.proofs.get_domains.Reads as reads
-use Rattle.image.proofs.get_domains.Lts as lts
-use Rattle.image.proofs.get_domain.Reads as get-domain-reads
 
 abbrev Inv-loop : tie.InvT-loop
 Inv-loop image at slots₀ d₀ slots d = (d ≤ 8) × ((length slots ≡ 384) × (slots ≡ sets slots₀ 0 (cat (domainIn image at) d)))

@@ -1,21 +1,13 @@
-use Rattle.image.proofs.Turns.{object-turn, entry-length}
-use Rattle.image_write.proofs.Bytes.{cat-turn}
+use Rattle.image.proofs.Turns.{object-turn}
 use Rattle.image.specs.Read.{objectIn}
-use Rattle.image_write.specs.Bytes.{bytes, value, le, cat}
-use mathlib.Core.Path.{_≡_, refl, sym, ap, _∙_, subst}
-use mathlib.Core.List.{List, [], _∷_, _++_}
-use mathlib.Core.Bool.{Bool, true, false}
-use Prim.Native.Nat.{ℕ, zero, suc, _+_, _*_, _-_, _^_, _≤_, _<_}
+use Rattle.image_write.specs.Bytes.{cat}
+use mathlib.Core.Path.{_≡_, refl}
+use Prim.Native.Nat.{_-_, _≤_}
 use native.Mathlib.Omega.{arith}
-use native.Mathlib.Nat.{sub-zero, add-zero}
-use lib.ListN.{length, take, drop, getD, set, length-set}
-use lib.Seq.{sets, length-sets}
-use borrow.Author.Needs.{needs}
+use lib.ListN.{length, length-set}
+use lib.Seq.{sets}
 use Rattle.image.proofs.get_objects.Statement.{statement}
 use Rattle.image.proofs.get_objects.Tie as tie
-use Rattle.image.proofs.get_objects.Reads as reads
-use Rattle.image.proofs.get_objects.Lts as lts
-use Rattle.image.proofs.get.Reads as get-reads
 
 abbrev Inv-loop : tie.InvT-loop
 Inv-loop image objects₀ n h₀ objects h = (h ≤ n) × ((length objects ≡ 512) × (objects ≡ sets objects₀ 0 (cat (objectIn image) h)))

@@ -1,20 +1,10 @@
 use Rattle.image.proofs.Turns.{enter-in, enter-out}
-use Rattle.image.specs.Read.{enter}
-use Rattle.image_write.specs.Bytes.{bytes, value, le, cat, magic}
-use mathlib.Core.Path.{_≡_, refl, sym, ap, _∙_, subst}
-use mathlib.Core.List.{List, [], _∷_, _++_}
-use mathlib.Core.Bool.{Bool, true, false}
-use Prim.Native.Nat.{ℕ, zero, suc, _+_, _*_, _-_, _^_, _≤_, _<_}
+use Prim.Native.Nat.{_-_}
 use native.Mathlib.Omega.{arith}
-use native.Mathlib.Nat.{sub-zero, add-zero}
-use lib.ListN.{length, take, drop, getD, set, length-set}
-use lib.Seq.{sets, length-sets}
+use lib.ListN.{length-set}
 use borrow.Author.Needs.{needs}
 use Rattle.image.proofs.get_thread.Statement.{statement}
 use Rattle.image.proofs.get_thread.Tie as tie
-use Rattle.image.proofs.get_thread.Reads as reads
-use Rattle.image.proofs.get_thread.Lts as lts
-use Rattle.image.proofs.get.Reads as get-reads
 
 get-requires : tie.Need-get-requires
 get-requires c κs = search needs

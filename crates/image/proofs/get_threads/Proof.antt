@@ -1,20 +1,11 @@
 use Rattle.image.proofs.Turns.{enter-turn}
 use Rattle.image.specs.Read.{enter, entered}
-use Rattle.image_write.specs.Bytes.{bytes, value, le, cat, magic}
-use mathlib.Core.Path.{_≡_, refl, sym, ap, _∙_, subst}
-use mathlib.Core.List.{List, [], _∷_, _++_}
-use mathlib.Core.Bool.{Bool, true, false}
-use Prim.Native.Nat.{ℕ, zero, suc, _+_, _*_, _-_, _^_, _≤_, _<_}
+use mathlib.Core.Path.{_≡_, refl, sym, ap, _∙_}
+use Prim.Native.Nat.{_+_, _*_, _-_, _≤_}
 use native.Mathlib.Omega.{arith}
-use native.Mathlib.Nat.{sub-zero, add-zero}
-use lib.ListN.{length, take, drop, getD, set, length-set}
-use lib.Seq.{sets, length-sets}
-use borrow.Author.Needs.{needs}
+use lib.ListN.{length}
 use Rattle.image.proofs.get_threads.Statement.{statement}
 use Rattle.image.proofs.get_threads.Tie as tie
-use Rattle.image.proofs.get_threads.Reads as reads
-use Rattle.image.proofs.get_threads.Lts as lts
-use Rattle.image.proofs.get_thread.Reads as get-thread-reads
 
 abbrev Inv-loop : tie.InvT-loop
 Inv-loop image at threads₀ n i₀ threads i = (i ≤ n) × ((length threads ≡ 192) × (threads ≡ entered image at threads₀ i))

@@ -1,4 +1,4 @@
-use mathlib.Core.Path.{_≡_, refl, sym, ap, _∙_}
+use mathlib.Core.Path.{sym}
 use native.Mathlib.Omega.{arith}
 use lib.Seq.{length-take-le}
 use borrow.Author.Tests.{not-true, not-false}
@@ -7,11 +7,6 @@ use Rattle.image.proofs.Answers.{too-short, not-magic, bad-fields, cut-
 use borrow.Author.Needs.{needs}
 use Rattle.image.proofs.head_code.Statement.{statement}
 use Rattle.image.proofs.head_code.Tie as tie
-use Rattle.image.proofs.head_code.Reads as reads
-use Rattle.image.proofs.head_code.Lts as lts
-use Rattle.image.proofs.fields_ok.Reads as fields-ok-reads
-use Rattle.image.proofs.get.Reads as get-reads
-use Rattle.image.proofs.is_magic.Reads as is-magic-reads
 
 -- src/lib.rt:172:9
 returns : tie.Need-returns

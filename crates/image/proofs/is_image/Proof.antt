@@ -1,18 +1,9 @@
-use mathlib.Core.Path.{_≡_, refl, sym, ap, _∙_}
-use Prim.Native.Nat.{ℕ, _≤_}
-use native.Mathlib.Omega.{arith}
-use lib.ListN.{length, length-replicate}
+use mathlib.Core.Path.{sym, _∙_}
 use lib.Seq.{length-take-le}
-use Rattle.image_write.proofs.Answers.{ok-long}
-use Rattle.image_write.proofs.Turns.{encode-most}
 use Rattle.image.proofs.Answers.{long-enough, fits-room, no-image, compared}
 use borrow.Author.Needs.{needs}
 use Rattle.image.proofs.is_image.Statement.{statement}
 use Rattle.image.proofs.is_image.Tie as tie
-use Rattle.image.proofs.is_image.Reads as reads
-use Rattle.image.proofs.is_image.Lts as lts
-use Rattle.image.proofs.same.Reads as same-reads
-use Rattle.image_write.proofs.write.Reads as write-reads
 
 -- src/lib.rt:230:57
 slice-aggregate-write : tie.Need-slice-aggregate-write

@@ -1,10 +1,7 @@
-use mathlib.Core.Path.{_≡_, refl, sym, ap, _∙_}
 use borrow.Author.Tests.{eq-eqb, ne-eqb}
 use Rattle.image.specs.Read.{sized}
 use Rattle.image.proofs.is_sized.Statement.{statement}
 use Rattle.image.proofs.is_sized.Tie as tie
-use Rattle.image.proofs.is_sized.Reads as reads
-use Rattle.image.proofs.is_sized.Lts as lts
 
 -- src/lib.rt:242:9
 returns : tie.Need-returns

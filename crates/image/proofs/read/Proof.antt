@@ -1,23 +1,14 @@
-use mathlib.Core.Path.{_≡_, refl, sym, ap, _∙_}
+use mathlib.Core.Path.{sym, ap, _∙_}
 use Prim.Native.Nat.{ℕ, _≤_}
 use native.Mathlib.Omega.{arith}
-use lib.ListN.{length, take, drop}
+use lib.ListN.{length, drop}
 use borrow.Author.Tests.{not-true, not-false}
 use Rattle.answer.specs.Tests.{via}
-use Rattle.image.specs.Read.{Decoded}
 use Rattle.image.proofs.Turns.{part-rest}
 use Rattle.image.proofs.Answers.{head-is, sizes, wrong-size, wrong-head, wrong-contents, right}
 use borrow.Author.Needs.{needs}
 use Rattle.image.proofs.read.Statement.{statement}
 use Rattle.image.proofs.read.Tie as tie
-use Rattle.image.proofs.read.Reads as reads
-use Rattle.image.proofs.read.Lts as lts
-use Rattle.image.proofs.copy32.Reads as copy32-reads
-use Rattle.image.proofs.copy64.Reads as copy64-reads
-use Rattle.image.proofs.decode.Reads as decode-reads
-use Rattle.image.proofs.head_code.Reads as head-code-reads
-use Rattle.image.proofs.is_image.Reads as is-image-reads
-use Rattle.image.proofs.is_sized.Reads as is-sized-reads
 
 -- src/lib.rt:270:9
 is-sized-requires : tie.Need-is-sized-requires

@@ -1,19 +1,11 @@
 use Rattle.image.proofs.Turns.{eqs-turn, eqs-no, eqs-long, eqs-end}
 use Rattle.image.specs.Read.{eqs}
-use Rattle.image_write.specs.Bytes.{bytes, value, le, cat}
-use mathlib.Core.Path.{_≡_, refl, sym, ap, _∙_, subst}
-use mathlib.Core.List.{List, [], _∷_, _++_}
-use mathlib.Core.Bool.{Bool, true, false}
-use Prim.Native.Nat.{ℕ, zero, suc, _+_, _*_, _-_, _^_, _≤_, _<_}
+use mathlib.Core.Path.{_≡_, refl, sym, _∙_}
+use Prim.Native.Nat.{_-_, _≤_}
 use native.Mathlib.Omega.{arith}
-use native.Mathlib.Nat.{sub-zero, add-zero}
-use lib.ListN.{length, take, drop, getD, set, length-set}
-use lib.Seq.{sets, length-sets}
-use borrow.Author.Needs.{needs}
+use lib.ListN.{length, drop}
 use Rattle.image.proofs.same.Statement.{statement}
 use Rattle.image.proofs.same.Tie as tie
-use Rattle.image.proofs.same.Reads as reads
-use Rattle.image.proofs.same.Lts as lts
 
 abbrev Inv-loop : tie.InvT-loop
 Inv-loop a b i₀ i = (i ≤ length a) × (eqs a b ≡ eqs (drop i a) (drop i b))

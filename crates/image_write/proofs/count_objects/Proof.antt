@@ -1,19 +1,10 @@
 use Rattle.image_write.proofs.Turns.{top-step, top-hit}
 use Rattle.image_write.specs.Encode.{top}
-use Rattle.image_write.specs.Bytes.{bytes, cat}
-use mathlib.Core.Path.{_≡_, refl, sym, ap, _∙_, subst}
-use mathlib.Core.List.{List, [], _∷_, _++_}
-use mathlib.Core.Bool.{Bool, true, false}
-use Prim.Native.Nat.{ℕ, zero, suc, _+_, _*_, _-_, _^_, _≤_, _<_}
+use mathlib.Core.Path.{_≡_, refl, sym, _∙_}
+use Prim.Native.Nat.{_-_, _≤_}
 use native.Mathlib.Omega.{arith}
-use native.Mathlib.Nat.{sub-zero, add-zero}
-use lib.ListN.{length, take, drop, getD, set, length-set}
-use lib.Seq.{sets, length-sets}
-use borrow.Author.Needs.{needs}
 use Rattle.image_write.proofs.count_objects.Statement.{statement}
 use Rattle.image_write.proofs.count_objects.Tie as tie
-use Rattle.image_write.proofs.count_objects.Reads as reads
-use Rattle.image_write.proofs.count_objects.Lts as lts
 
 abbrev Inv-loop : tie.InvT-loop
 Inv-loop objects n₀ n = (n ≤ 256) × (top objects n ≡ top objects 256)

@@ -1,20 +1,11 @@
 use Rattle.image_write.proofs.Turns.{live-more, live-same}
 use Rattle.image_write.specs.Encode.{live}
-use Rattle.image_write.specs.Bytes.{bytes, cat}
-use mathlib.Core.Path.{_≡_, refl, sym, ap, _∙_, subst}
-use mathlib.Core.List.{List, [], _∷_, _++_}
-use mathlib.Core.Bool.{Bool, true, false}
-use Prim.Native.Nat.{ℕ, zero, suc, _+_, _*_, _-_, _^_, _≤_, _<_}
+use mathlib.Core.Path.{_≡_, refl, sym, ap, _∙_}
+use Prim.Native.Nat.{ℕ, _+_, _-_, _≤_}
 use native.Mathlib.Omega.{arith}
-use native.Mathlib.Nat.{sub-zero, add-zero}
-use lib.ListN.{length, take, drop, getD, set, length-set}
-use lib.Seq.{sets, length-sets}
-use borrow.Author.Needs.{needs}
 use mathlib.Core.Logic.{⊎-elim}
 use Rattle.image_write.proofs.count_threads.Statement.{statement}
 use Rattle.image_write.proofs.count_threads.Tie as tie
-use Rattle.image_write.proofs.count_threads.Reads as reads
-use Rattle.image_write.proofs.count_threads.Lts as lts
 
 abbrev Inv-loop : tie.InvT-loop
 Inv-loop threads n₀ t₀ n t = (t ≤ 64) × ((n ≤ t) × (n ≡ live threads t))

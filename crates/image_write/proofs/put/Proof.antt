@@ -1,17 +1,15 @@
 -- `img::put`: the invariant: storing the bytes that are left gives what is to be stored. Assumes nothing.
-use mathlib.Core.Path.{_≡_, refl, sym, ap, _∙_, subst}
-use Prim.Native.Nat.{ℕ, suc, _+_, _*_, _-_, _^_, _≤_, _<_}
+use mathlib.Core.Path.{_≡_, refl, sym, _∙_}
+use Prim.Native.Nat.{_+_, _-_, _≤_}
 use native.Mathlib.Omega.{arith}
 use native.Mathlib.Nat.{sub-zero, add-zero}
-use lib.ListN.{length, take, drop, getD, length-set}
+use lib.ListN.{length, length-set}
 use lib.Seq.{sets}
 use borrow.Author.Needs.{needs}
 use Rattle.image_write.specs.Bytes.{bytes}
 use Rattle.image_write.proofs.Bytes.{put-turn}
 use Rattle.image_write.proofs.put.Statement.{statement}
 use Rattle.image_write.proofs.put.Tie as tie
-use Rattle.image_write.proofs.put.Reads as reads
-use Rattle.image_write.proofs.put.Lts as lts
 
 abbrev Inv-loop : tie.InvT-loop
 Inv-loop out₀ at n v k₀ w₀ out k w = (k ≤ n) × ((length out ≡ length out₀) × (sets out (at + k) (bytes (n - k) w) ≡ sets out₀ at (bytes n v)))

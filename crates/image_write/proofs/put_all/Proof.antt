@@ -1,19 +1,11 @@
 use Rattle.image_write.proofs.Bytes.{copy-turn}
-use Rattle.image_write.specs.Encode.{top}
-use Rattle.image_write.specs.Bytes.{bytes, cat}
-use mathlib.Core.Path.{_≡_, refl, sym, ap, _∙_, subst}
-use mathlib.Core.List.{List, [], _∷_, _++_}
-use mathlib.Core.Bool.{Bool, true, false}
-use Prim.Native.Nat.{ℕ, zero, suc, _+_, _*_, _-_, _^_, _≤_, _<_}
+use mathlib.Core.Path.{_≡_, refl, sym, _∙_}
+use Prim.Native.Nat.{_-_, _≤_}
 use native.Mathlib.Omega.{arith}
-use native.Mathlib.Nat.{sub-zero, add-zero}
-use lib.ListN.{length, take, drop, getD, set, length-set}
-use lib.Seq.{drop-length, sets, length-sets}
-use borrow.Author.Needs.{needs}
+use lib.ListN.{length, drop, length-set}
+use lib.Seq.{drop-length, sets}
 use Rattle.image_write.proofs.put_all.Statement.{statement}
 use Rattle.image_write.proofs.put_all.Tie as tie
-use Rattle.image_write.proofs.put_all.Reads as reads
-use Rattle.image_write.proofs.put_all.Lts as lts
 
 abbrev Inv-loop : tie.InvT-loop
 Inv-loop out₀ src i₀ out i = (i ≤ length src) × ((length out ≡ length out₀) × (sets out i (drop i src) ≡ sets out₀ 0 src))

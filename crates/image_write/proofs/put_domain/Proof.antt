@@ -2,22 +2,15 @@ use Rattle.image_write.proofs.Bytes.{cat-length}
 use Rattle.image_write.proofs.Bytes.{cat-turn, sets-all}
 use Rattle.image_write.proofs.Turns.{slot-length}
 use Rattle.image_write.specs.Encode.{domainBytes, slotBytes}
-use Rattle.image_write.specs.Bytes.{bytes, cat, magic}
-use mathlib.Core.Path.{_≡_, refl, sym, ap, _∙_, subst}
-use mathlib.Core.List.{List, [], _∷_, _++_}
-use mathlib.Core.Bool.{Bool, true, false}
-use Prim.Native.Nat.{ℕ, zero, suc, _+_, _*_, _-_, _^_, _≤_, _<_}
+use Rattle.image_write.specs.Bytes.{bytes, cat}
+use mathlib.Core.Path.{_≡_, refl, sym, ap, _∙_}
+use mathlib.Core.List.{List}
+use Prim.Native.Nat.{ℕ, _+_, _*_, _-_, _≤_}
 use native.Mathlib.Omega.{arith}
-use native.Mathlib.Nat.{sub-zero, add-zero}
-use lib.ListN.{length, take, drop, getD, set, length-set}
-use lib.Seq.{sets, length-sets}
-use borrow.Author.Needs.{needs}
+use lib.ListN.{length}
+use lib.Seq.{sets}
 use Rattle.image_write.proofs.put_domain.Statement.{statement}
 use Rattle.image_write.proofs.put_domain.Tie as tie
-use Rattle.image_write.proofs.put_domain.Reads as reads
-use Rattle.image_write.proofs.put_domain.Lts as lts
-use Rattle.image_write.proofs.put.Reads as put-reads
-use Rattle.image_write.proofs.wide32.Reads as wide32-reads
 
 abbrev Inv-loop : tie.InvT-loop
 Inv-loop rec₀ slots k₀ rec k = (k ≤ 48) × ((length rec ≡ 192) × (rec ≡ sets rec₀ 0 (cat (slotBytes slots) k)))

@@ -1,21 +1,14 @@
 use Rattle.image_write.proofs.Bytes.{part-length}
 use Rattle.image_write.proofs.Turns.{domains-put}
 use Rattle.image_write.specs.Encode.{domainsBytes, domainPart}
-use Rattle.image_write.specs.Bytes.{bytes, cat, magic}
-use mathlib.Core.Path.{_≡_, refl, sym, ap, _∙_, subst}
-use mathlib.Core.List.{List, [], _∷_, _++_}
-use mathlib.Core.Bool.{Bool, true, false}
-use Prim.Native.Nat.{ℕ, zero, suc, _+_, _*_, _-_, _^_, _≤_, _<_}
+use Rattle.image_write.specs.Bytes.{cat}
+use mathlib.Core.Path.{_≡_, refl, ap, _∙_}
+use Prim.Native.Nat.{_+_, _*_, _-_, _≤_}
 use native.Mathlib.Omega.{arith}
-use native.Mathlib.Nat.{sub-zero, add-zero}
-use lib.ListN.{length, take, drop, getD, set, length-set}
+use lib.ListN.{length}
 use lib.Seq.{sets, length-sets}
-use borrow.Author.Needs.{needs}
 use Rattle.image_write.proofs.put_domains.Statement.{statement}
 use Rattle.image_write.proofs.put_domains.Tie as tie
-use Rattle.image_write.proofs.put_domains.Reads as reads
-use Rattle.image_write.proofs.put_domains.Lts as lts
-use Rattle.image_write.proofs.put_domain.Reads as put-domain-reads
 
 abbrev Inv-loop : tie.InvT-loop
 Inv-loop out₀ at slots d₀ out d = (d ≤ 8) × ((length out ≡ length out₀) × (out ≡ sets out₀ at (cat (domainPart slots) d)))

@@ -1,23 +1,10 @@
 use Rattle.image_write.proofs.Turns.{threads-length, encode-put}
-use Rattle.image_write.specs.Encode.{encode}
-use Rattle.image_write.specs.Bytes.{bytes, cat, magic}
-use mathlib.Core.Path.{_≡_, refl, sym, ap, _∙_, subst}
-use mathlib.Core.List.{List, [], _∷_, _++_}
-use mathlib.Core.Bool.{Bool, true, false}
-use Prim.Native.Nat.{ℕ, zero, suc, _+_, _*_, _-_, _^_, _≤_, _<_}
+use mathlib.Core.Path.{refl}
+use Prim.Native.Nat.{_+_, _*_, _-_}
 use native.Mathlib.Omega.{arith}
-use native.Mathlib.Nat.{sub-zero, add-zero}
-use lib.ListN.{length, take, drop, getD, set, length-set}
-use lib.Seq.{sets, length-sets}
 use borrow.Author.Needs.{needs}
 use Rattle.image_write.proofs.put_image.Statement.{statement}
 use Rattle.image_write.proofs.put_image.Tie as tie
-use Rattle.image_write.proofs.put_image.Reads as reads
-use Rattle.image_write.proofs.put_image.Lts as lts
-use Rattle.image_write.proofs.put_domains.Reads as put-domains-reads
-use Rattle.image_write.proofs.put_header.Reads as put-header-reads
-use Rattle.image_write.proofs.put_objects.Reads as put-objects-reads
-use Rattle.image_write.proofs.put_threads.Reads as put-threads-reads
 
 mul-a : tie.Need-mul-a
 mul-a c = search needs

@@ -1,21 +1,13 @@
-use Rattle.image_write.proofs.Turns.{object-put, object-length}
-use Rattle.image_write.proofs.Bytes.{cat-turn, sets-append}
+use Rattle.image_write.proofs.Turns.{object-put}
 use Rattle.image_write.specs.Encode.{objectBytes}
-use Rattle.image_write.specs.Bytes.{bytes, cat}
-use mathlib.Core.Path.{_≡_, refl, sym, ap, _∙_, subst}
-use mathlib.Core.List.{List, [], _∷_, _++_}
-use mathlib.Core.Bool.{Bool, true, false}
-use Prim.Native.Nat.{ℕ, zero, suc, _+_, _*_, _-_, _^_, _≤_, _<_}
+use Rattle.image_write.specs.Bytes.{cat}
+use mathlib.Core.Path.{_≡_, refl, _∙_}
+use Prim.Native.Nat.{_-_, _≤_}
 use native.Mathlib.Omega.{arith}
-use native.Mathlib.Nat.{sub-zero, add-zero}
-use lib.ListN.{length, take, drop, getD, set, length-set}
-use lib.Seq.{sets, length-sets}
-use borrow.Author.Needs.{needs}
+use lib.ListN.{length}
+use lib.Seq.{sets}
 use Rattle.image_write.proofs.put_objects.Statement.{statement}
 use Rattle.image_write.proofs.put_objects.Tie as tie
-use Rattle.image_write.proofs.put_objects.Reads as reads
-use Rattle.image_write.proofs.put_objects.Lts as lts
-use Rattle.image_write.proofs.put.Reads as put-reads
 
 abbrev Inv-loop : tie.InvT-loop
 Inv-loop out₀ at objects n h₀ out h = (h ≤ n) × ((length out ≡ length out₀) × (out ≡ sets out₀ at (cat (objectBytes objects) h)))

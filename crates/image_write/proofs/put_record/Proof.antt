@@ -1,20 +1,8 @@
 use Rattle.image_write.proofs.Turns.{record-put}
-use Rattle.image_write.specs.Encode.{top}
-use Rattle.image_write.specs.Bytes.{bytes, cat, magic}
-use mathlib.Core.Path.{_≡_, refl, sym, ap, _∙_, subst}
-use mathlib.Core.List.{List, [], _∷_, _++_}
-use mathlib.Core.Bool.{Bool, true, false}
-use Prim.Native.Nat.{ℕ, zero, suc, _+_, _*_, _-_, _^_, _≤_, _<_}
-use native.Mathlib.Omega.{arith}
-use native.Mathlib.Nat.{sub-zero, add-zero}
-use lib.ListN.{length, take, drop, getD, set, length-set}
-use lib.Seq.{sets, length-sets}
+use Prim.Native.Nat.{_-_}
 use borrow.Author.Needs.{needs}
 use Rattle.image_write.proofs.put_record.Statement.{statement}
 use Rattle.image_write.proofs.put_record.Tie as tie
-use Rattle.image_write.proofs.put_record.Reads as reads
-use Rattle.image_write.proofs.put_record.Lts as lts
-use Rattle.image_write.proofs.put.Reads as put-reads
 
 put-requires : tie.Need-put-requires
 put-requires c κs = search needs

@@ -1,21 +1,12 @@
 use Rattle.image_write.proofs.Turns.{thread-dead, thread-live, thread-length}
-use Rattle.image_write.specs.Encode.{threadBytes}
-use Rattle.image_write.specs.Bytes.{bytes, cat, magic}
-use mathlib.Core.Path.{_≡_, refl, sym, ap, _∙_, subst}
-use mathlib.Core.List.{List, [], _∷_, _++_}
-use mathlib.Core.Bool.{Bool, true, false}
-use Prim.Native.Nat.{ℕ, zero, suc, _+_, _*_, _-_, _^_, _≤_, _<_}
+use mathlib.Core.Path.{_≡_, refl, sym, _∙_}
+use Prim.Native.Nat.{_*_, _-_}
 use native.Mathlib.Omega.{arith}
-use native.Mathlib.Nat.{sub-zero, add-zero}
-use lib.ListN.{length, take, drop, getD, set, length-set}
-use lib.Seq.{sets, length-sets}
+use native.Mathlib.Nat.{add-zero}
+use lib.ListN.{getD}
 use borrow.Author.Needs.{needs}
 use Rattle.image_write.proofs.put_thread.Statement.{statement}
 use Rattle.image_write.proofs.put_thread.Tie as tie
-use Rattle.image_write.proofs.put_thread.Reads as reads
-use Rattle.image_write.proofs.put_thread.Lts as lts
-use Rattle.image_write.proofs.put_record.Reads as put-record-reads
-use Rattle.image_write.proofs.wide32.Reads as wide32-reads
 
 mul-wide32 : tie.Need-mul-wide32
 mul-wide32 c = search needs

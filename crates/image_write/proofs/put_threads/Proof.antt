@@ -1,20 +1,13 @@
 use Rattle.image_write.proofs.Bytes.{behind, cat-room, cat-more}
 use Rattle.image_write.specs.Encode.{threadBytes}
-use Rattle.image_write.specs.Bytes.{bytes, cat, magic}
-use mathlib.Core.Path.{_≡_, refl, sym, ap, _∙_, subst}
-use mathlib.Core.List.{List, [], _∷_, _++_}
-use mathlib.Core.Bool.{Bool, true, false}
-use Prim.Native.Nat.{ℕ, zero, suc, _+_, _*_, _-_, _^_, _≤_, _<_}
+use Rattle.image_write.specs.Bytes.{cat}
+use mathlib.Core.Path.{_≡_, refl, sym, _∙_}
+use Prim.Native.Nat.{_+_, _-_, _≤_}
 use native.Mathlib.Omega.{arith}
-use native.Mathlib.Nat.{sub-zero, add-zero}
-use lib.ListN.{length-append, length, take, drop, getD, set, length-set}
-use lib.Seq.{sets, length-sets}
-use borrow.Author.Needs.{needs}
+use lib.ListN.{length-append, length}
+use lib.Seq.{sets}
 use Rattle.image_write.proofs.put_threads.Statement.{statement}
 use Rattle.image_write.proofs.put_threads.Tie as tie
-use Rattle.image_write.proofs.put_threads.Reads as reads
-use Rattle.image_write.proofs.put_threads.Lts as lts
-use Rattle.image_write.proofs.put_thread.Reads as put-thread-reads
 
 abbrev Inv-loop : tie.InvT-loop
 Inv-loop out₀ at threads t₀ to₀ out t to = (t ≤ 64) × ((length out ≡ length out₀) × ((to ≡ at + length (cat (threadBytes threads) t)) × (out ≡ sets out₀ at (cat (threadBytes threads) t))))

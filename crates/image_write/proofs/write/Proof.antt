@@ -1,16 +1,9 @@
-use mathlib.Core.Path.{_≡_, refl, sym, ap, _∙_}
-use native.Mathlib.Omega.{arith}
+use mathlib.Core.Path.{refl, sym, _∙_}
 use borrow.Author.Tests.{not-true, not-false}
 use Rattle.image_write.proofs.Answers.{tables-fit, broken, short, done}
 use borrow.Author.Needs.{needs}
 use Rattle.image_write.proofs.write.Statement.{statement}
 use Rattle.image_write.proofs.write.Tie as tie
-use Rattle.image_write.proofs.write.Reads as reads
-use Rattle.image_write.proofs.write.Lts as lts
-use Rattle.image_write.proofs.count_objects.Reads as count-objects-reads
-use Rattle.image_write.proofs.count_threads.Reads as count-threads-reads
-use Rattle.image_write.proofs.put_image.Reads as put-image-reads
-use Rattle.rules.proofs.keeps.Reads as keeps-reads
 
 -- src/lib.rt:212:9
 keeps-requires : tie.Need-keeps-requires

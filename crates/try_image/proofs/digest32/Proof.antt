@@ -1,13 +1,8 @@
-use mathlib.Core.Path.{_≡_, refl}
 use Prim.Native.Nat.{_-_, _≤_}
 use lib.ListN.{length}
 use borrow.Author.Needs.{needs}
 use Rattle.try_image.proofs.digest32.Statement.{statement}
 use Rattle.try_image.proofs.digest32.Tie as tie
-use Rattle.try_image.proofs.digest32.Reads as reads
-use Rattle.try_image.proofs.digest32.Lts as lts
-use Rattle.try_image.proofs.stir.Reads as stir-reads
-use Rattle.try_image.proofs.wider.Reads as wider-reads
 
 abbrev Inv-loop : tie.InvT-loop
 Inv-loop xs h₀ i₀ h i = i ≤ length xs

@@ -1,17 +1,8 @@
-use mathlib.Core.Path.{_≡_, sym}
+use mathlib.Core.Path.{sym}
 use lib.Seq.{length-take-le}
 use borrow.Author.Needs.{needs}
 use Rattle.try_image.proofs.read.Statement.{statement}
 use Rattle.try_image.proofs.read.Tie as tie
-use Rattle.try_image.proofs.read.Reads as reads
-use Rattle.try_image.proofs.read.Lts as lts
-use Rattle.image.proofs.read.Reads as read-reads
-use Rattle.try_image.proofs.digest32.Reads as digest32-reads
-use Rattle.try_image.proofs.digest64.Reads as digest64-reads
-use Rattle.try_image.proofs.figure.Reads as figure-reads
-use Rattle.try_image.proofs.first.Reads as first-reads
-use Rattle.try_image.proofs.short_of.Reads as short-of-reads
-use Rattle.try_image.proofs.word.Reads as word-reads
 
 -- src/main.rt:190:9
 returns : tie.Need-returns

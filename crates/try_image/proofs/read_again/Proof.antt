@@ -1,16 +1,9 @@
-use mathlib.Core.Path.{_≡_, refl}
-use Prim.Native.Nat.{_-_, _≤_}
+use mathlib.Core.Path.{_≡_}
+use Prim.Native.Nat.{_-_}
 use lib.ListN.{length}
 use borrow.Author.Needs.{needs}
 use Rattle.try_image.proofs.read_again.Statement.{statement}
 use Rattle.try_image.proofs.read_again.Tie as tie
-use Rattle.try_image.proofs.read_again.Reads as reads
-use Rattle.try_image.proofs.read_again.Lts as lts
-use Rattle.try_image.proofs.every_other.Reads as every-other-reads
-use Rattle.try_image.proofs.figure.Reads as figure-reads
-use Rattle.try_image.proofs.fill.Reads as fill-reads
-use Rattle.try_image.proofs.read_once.Reads as read-once-reads
-use Rattle.try_image.proofs.word.Reads as word-reads
 
 abbrev Inv-loop : tie.InvT-loop
 Inv-loop objects₀ threads₀ slots₀ bytes₀ a b c good₀ k₀ t10 objects threads slots bytes good k = (length objects ≡ length objects₀) × (length threads ≡ length threads₀) × (length slots ≡ length slots₀) × (length bytes ≡ length bytes₀)

@@ -1,13 +1,9 @@
-use mathlib.Core.Path.{_≡_, refl}
-use Prim.Native.Nat.{_-_, _≤_}
+use mathlib.Core.Path.{_≡_}
+use Prim.Native.Nat.{_-_}
 use lib.ListN.{length}
 use borrow.Author.Needs.{needs}
 use Rattle.try_image.proofs.run.Statement.{statement}
 use Rattle.try_image.proofs.run.Tie as tie
-use Rattle.try_image.proofs.run.Reads as reads
-use Rattle.try_image.proofs.run.Lts as lts
-use Rattle.try_image.proofs.length_of.Reads as length-of-reads
-use Rattle.try_image.proofs.step.Reads as step-reads
 
 abbrev Inv-loop : tie.InvT-loop
 Inv-loop objects₀ threads₀ slots₀ bytes₀ cases n at₀ objects threads slots bytes at = (length objects ≡ length objects₀) × (length threads ≡ length threads₀) × (length slots ≡ length slots₀) × (length bytes ≡ length bytes₀)

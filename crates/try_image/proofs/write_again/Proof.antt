@@ -1,17 +1,9 @@
-use mathlib.Core.Path.{_≡_, refl}
-use Prim.Native.Nat.{_-_, _≤_}
+use mathlib.Core.Path.{_≡_}
+use Prim.Native.Nat.{_-_}
 use lib.ListN.{length}
 use borrow.Author.Needs.{needs}
 use Rattle.try_image.proofs.write_again.Statement.{statement}
 use Rattle.try_image.proofs.write_again.Tie as tie
-use Rattle.try_image.proofs.write_again.Reads as reads
-use Rattle.try_image.proofs.write_again.Lts as lts
-use Rattle.try_image.proofs.every_other.Reads as every-other-reads
-use Rattle.try_image.proofs.figure.Reads as figure-reads
-use Rattle.try_image.proofs.set64.Reads as set64-reads
-use Rattle.try_image.proofs.wider.Reads as wider-reads
-use Rattle.try_image.proofs.word.Reads as word-reads
-use Rattle.try_image.proofs.write_once.Reads as write-once-reads
 
 abbrev Inv-loop : tie.InvT-loop
 Inv-loop objects₀ threads slots bytes₀ a b c good₀ k₀ t10 objects bytes good k = (length objects ≡ length objects₀) × (length bytes ≡ length bytes₀)
