@@ -2,16 +2,16 @@
 use mathlib.Core.Path.{_≡_, refl, sym, ap, _∙_}
 use Prim.Native.Nat.{ℕ, zero, suc, _+_, _*_, _/_, _%_, _^_, _≤_, _<_, _-_}
 use native.Mathlib.Nat.{pow-suc, mul-suc, lt-of-lt-of-le, zero-add, mul-assoc}
-use native.Mathlib.Decide.{decLe}
+use native.Mathlib.Decide.{decLe, decLt}
 use native.Mathlib.Omega.{arith}
 use mathlib.Core.Logic.{_≢_, inr}
 use mathlib.Core.List.{List, [], _∷_, _++_, append-nil}
 use mathlib.Core.Bool.{false, cond}
 use lib.Dec.{eqb}
 use lib.ListN.{length, take, drop, getD, length-take, length-drop}
-use lib.Seq.{sets, length-sets, take-add, drop-drop, take-length, take-all, length-take-le, getD-take, getD-drop}
+use lib.Seq.{sets, length-sets, take-add, take-take, drop-drop, take-length, take-all, length-take-le, getD-take, getD-drop}
 use borrow.Author.Tests.{lt-ltb, eq-eqb, ne-eqb}
-use Rattle.tables.specs.Rows.{at3-same, at3-other, getD-sets-out, getD-sets-in}
+use Rattle.tables.specs.Rows.{at3, at3-same, at3-other, getD-sets-out, getD-sets-in}
 use Rattle.image_write.specs.Bytes.{bytes, value, le, cat}
 use Rattle.image_write.specs.Encode.{objectBytes, threadBytes, slotBytes, domainBytes, domainPart, domainsBytes, top, live}
 use Rattle.image_write.proofs.Bytes.{cat-length, cat-same}
@@ -82,7 +82,7 @@ pub joined : (b : List ℕ) (at m n : ℕ) → take m (drop at b) ++ take n (dro
 joined b at m n = rw (← drop-drop m at b) (sym (take-add m n (drop at b)))
 
 -- number j of record i
-cat-get : (f : ℕ → List ℕ) (m : ℕ) → ((k : ℕ) → length (f k) ≡ m) → (n i j : ℕ) → i < n → j < m → getD (cat f n) (m * i + j) 0 ≡ getD (f i) j 0
+pub cat-get : (f : ℕ → List ℕ) (m : ℕ) → ((k : ℕ) → length (f k) ≡ m) → (n i j : ℕ) → i < n → j < m → getD (cat f n) (m * i + j) 0 ≡ getD (f i) j 0
 cat-get f m l n i j p q =
     let a : At (cat f n) (m * i) (f i) = rw zero-add at (at-cat (cat f n) 0 f m l i n p (take-length (cat f n))) in
     let h : j < length (f i) = rw (l i) q in
@@ -244,3 +244,50 @@ module _ (b : List ℕ) (h : Below 256 b) (at : ℕ) (z : List ℕ) (lz : length
       let e = sym (threads-length (entered b at z n) 64) ∙ ap length (threads-again n l f r 64 f) in
       let m : length (take (8 * n) (drop at b)) ≡ 8 * n = length-take-le (8 * n) (drop at b) (rw length-drop (omega arith)) in
       omega arith
+
+  -- what was read of record i stands at its id, and nothing at another number
+  module _ {A : Type 0} (f : ℕ → ℕ → ℕ → A) where
+    pub row-kept :
+        (n : ℕ) → ((i : ℕ) → i < n → id i < 64) → ((i j : ℕ) → i < j → j < n → id i < id j) → (i : ℕ) → i < n →
+        at3 f (entered b at z n) (id i) ≡ f (le 1 b (at + 8 * i + 1) + 1) (le 2 b (at + 8 * i + 2)) (le 4 b (at + 8 * i + 4))
+    unfolding entered
+    row-kept zero g r i p = absurd (omega arith)
+    row-kept (suc n) g r i p =
+        let old : List ℕ = entered b at z n in
+        let m : length old ≡ 192 = entered-long n (λ j q. g j (omega arith)) in
+        let x64 : id n < 64 = g n (omega arith) in
+        elim (decLt i n) [
+          | yes q ↦
+              let u : id i < id n = r i n q (omega arith) in
+              rw (enters (at + 8 * n) old x64)
+              (at3-other f old (id i) (id n) (le 1 b (at + 8 * n + 1) + 1) (le 2 b (at + 8 * n + 2)) (le 4 b (at + 8 * n + 4)) (λ w. omega arith)
+              ∙ row-kept n (λ j q. g j (omega arith)) (λ j k q v. r j k q (omega arith)) i q)
+          | no q ↦
+              let w : i ≡ n = omega arith in
+              rw (w, enters (at + 8 * n) old x64) (at3-same f old (id n) (le 1 b (at + 8 * n + 1) + 1) (le 2 b (at + 8 * n + 2)) (le 4 b (at + 8 * n + 4)) (omega arith))
+        ]
+
+    pub none-kept : (n : ℕ) → ((i : ℕ) → i < n → id i < 64) → (t : ℕ) → ((i : ℕ) → i < n → id i ≢ t) → at3 f (entered b at z n) t ≡ f 0 0 0
+    unfolding entered
+    none-kept zero g t o = rw (hz (3 * t), hz (3 * t + 1), hz (3 * t + 2)) refl
+    none-kept (suc n) g t o =
+        rw (enters (at + 8 * n) (entered b at z n) (g n (omega arith)))
+        (at3-other f (entered b at z n) t (id n) (le 1 b (at + 8 * n + 1) + 1) (le 2 b (at + 8 * n + 2)) (le 4 b (at + 8 * n + 4)) (o n (omega arith))
+        ∙ none-kept n (λ j q. g j (omega arith)) t (λ j q. o j (omega arith)))
+
+-- ---- slots, number by number
+
+part-in : (n x k : ℕ) (l : List ℕ) → x + n ≤ k → take n (drop x (take k l)) ≡ take n (drop x l)
+part-in n zero k l h = take-take n k l (omega arith)
+part-in n (suc x) zero l h = absurd (omega arith)
+part-in n (suc x) (suc k) [] h = refl
+part-in n (suc x) (suc k) (y ∷ l) h = part-in n x k l (omega arith)
+
+pub slot-number : (b : List ℕ) (at d j : ℕ) → d < 8 → j < 48 → getD (domainsIn b at) (48 * d + j) 0 ≡ le 4 b (at + 192 * d + 4 * j)
+unfolding domainsIn domainOf
+slot-number b at d j p q =
+    let r : List ℕ = take 192 (drop (at + 192 * d) b) in
+    let e : 1 * j + 0 ≡ j = omega arith in
+    cat-get (domainIn b at) 48 (λ k. domain-length _) 8 d j p q
+    ∙ rw e at (cat-get (λ (k : ℕ). le 4 r (4 * k) ∷ []) 1 (λ k. refl) 48 j 0 q (omega arith))
+    ∙ ap value (part-in 4 (4 * j) 192 (drop (at + 192 * d) b) (omega arith) ∙ ap (take 4) (drop-drop (4 * j) (at + 192 * d) b))

@@ -24,7 +24,7 @@ use Rattle.image.proofs.Answers.{HeadIs, head-is}
 use Rattle.image_laws.proofs.Fits.{head-fits, free-head, thread-fits}
 use Rattle.image_laws.proofs.Place.{At, at-cat, at-part, zeros, zeros-long, zeros-at}
 use Rattle.image_laws.proofs.Round.{Laid, laid, Header, head-good, head-read, row-read, RowAt, read-written, read-sound, written-read, image-ok, ok-image, is-image}
-use Rattle.image_laws.proofs.Again.{Below, le-below, le-split, again, joined, head-at, free-behind, objects-again, top-is, entered-long, threads-again, live-again, domains-again}
+use Rattle.image_laws.proofs.Again.{Below, le-below, le-split, again, joined, head-at, word-at, free-behind, objects-again, top-is, entered-long, threads-again, live-again, domains-again}
 
 -- ---- the first description
 
@@ -218,25 +218,28 @@ four b p q r a₁ a₂ a₃ a₄ e₁ e₂ e₃ e₄ = rw (e₁, e₂, e₃, e�
 
 -- the tables that are read off have the right lengths, and a head whose u16 is zero has two bytes
 module _ (b : List ℕ) (d : Document b) (h : Below 256 b) where
-  size : total (objectCount b) (threadCount b) ≤ length b
+  pub size : total (objectCount b) (threadCount b) ≤ length b
   size = omega (arith, d .total-is, d .whole)
 
-  objects-read : readObjects b ≡ sets (zeros 512) 0 (cat (objectIn b) (objectCount b))
+  pub objects-read : readObjects b ≡ sets (zeros 512) 0 (cat (objectIn b) (objectCount b))
   unfolding readObjects
   objects-read = refl
 
-  threads-read : readThreads b ≡ entered b (threadsPlace b) (zeros 192) (threadCount b)
+  pub threads-read : readThreads b ≡ entered b (threadsPlace b) (zeros 192) (threadCount b)
   unfolding readThreads
   threads-read = refl
 
-  slots-read : readSlots b ≡ domainsIn b (domainsPlace b)
+  pub slots-read : readSlots b ≡ domainsIn b (domainsPlace b)
   unfolding readSlots
   slots-read = refl
 
-  head-is-at : (k : ℕ) → k < objectCount b → getD (readObjects b) (2 * k) 0 ≡ le 4 b (objectPlace k)
+  pub head-is-at : (k : ℕ) → k < objectCount b → getD (readObjects b) (2 * k) 0 ≡ le 4 b (objectPlace k)
   head-is-at k p = rw objects-read (head-at b h (zeros 512) (zeros-long 512) (zeros-at 512) (objectCount b) (d .objects) k p)
 
-  free-is : (k : ℕ) → objectCount b ≤ k → getD (readObjects b) (2 * k) 0 ≡ 0
+  pub word-is-at : (k : ℕ) → k < objectCount b → getD (readObjects b) (2 * k + 1) 0 ≡ le 8 b (20 + 12 * k)
+  word-is-at k p = rw objects-read (word-at b h (zeros 512) (zeros-long 512) (zeros-at 512) (objectCount b) (d .objects) k p)
+
+  pub free-is : (k : ℕ) → objectCount b ≤ k → getD (readObjects b) (2 * k) 0 ≡ 0
   free-is k p = rw objects-read (free-behind b h (zeros 512) (zeros-long 512) (zeros-at 512) (objectCount b) (d .objects) k p)
 
   heads : (k : ℕ) → k < HANDLES → getD (readObjects b) (2 * k) 0 < 65536
@@ -293,13 +296,15 @@ module _ (b : List ℕ) (d : Document b) (h : Below 256 b) where
       (rw threads-read (threads-again b h (threadsPlace b) (zeros 192) (zeros-long 192) (zeros-at 192) n (omega (arith, size)) (d .ids) (d .rising) 64 (d .ids)))
       (rw slots-read (domains-again b h (domainsPlace b) (omega (arith, size)))))
 
+  pub document-sound : Sound (readObjects b) (readThreads b) (readSlots b)
+  document-sound = record { fit = fit; keeps = d .rules }
+
   pub document-accepted : imageCode b ≡ 0
   document-accepted =
-      let s : Sound (readObjects b) (readThreads b) (readSlots b) = record { fit = fit; keeps = d .rules } in
       let hd : Header b (objectCount b) (threadCount b) =
       record { magic-is = d .magic-is; objects = refl; threads = refl; domains = d .domains; total-is = omega (arith, d .total-is) } in
       ok-image b (head-good b (objectCount b) (threadCount b) (d .objects) (d .threads) size hd)
-      (is-image b (totalOf b) (readObjects b) (readThreads b) (readSlots b) s written-again)
+      (is-image b (totalOf b) (readObjects b) (readThreads b) (readSlots b) document-sound written-again)
 
 -- ---- both descriptions are the same
 

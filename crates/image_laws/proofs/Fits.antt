@@ -65,15 +65,15 @@ small p true e v r f =
 small p false e v r f = rw (f e) (record { start = lit< tt; size = lit< tt; attr = lit< tt })
 
 module _ {os ts ss : List ℕ} (s : Sound os ts ss) where
-  object-is : (h : ℕ) → object (stateOf os ts ss) h ≡ objectAt os h
+  pub object-is : (h : ℕ) → object (stateOf os ts ss) h ≡ objectAt os h
   unfolding object
   object-is h = object-of os (s .fit .objects) h
 
-  thread-is : (t : ℕ) → thread (stateOf os ts ss) t ≡ threadAt ts t
+  pub thread-is : (t : ℕ) → thread (stateOf os ts ss) t ≡ threadAt ts t
   unfolding thread
   thread-is t = thread-of ts (s .fit .threads) t
 
-  domain-is : (d : ℕ) → d < DOMAINS → domain (stateOf os ts ss) d ≡ partitionsAt ss d
+  pub domain-is : (d : ℕ) → d < DOMAINS → domain (stateOf os ts ss) d ≡ partitionsAt ss d
   unfolding domain
   domain-is d l = domain-of ss d l
 

@@ -5,3 +5,4 @@ pub mod Again
 pub mod Document
 pub mod Lengths
 pub mod Promises
+pub mod Off
