@@ -209,6 +209,10 @@ fn read(
         &mut slots[..z],
         &mut code,
     );
+    report(code, rest, objects, threads, slots);
+}
+
+fn report(code: u32, rest: &[u8], objects: &[u64], threads: &[u32], slots: &[u32]) {
     figure(code as u64);
     figure(rest.len() as u64);
     figure(first(rest));
