@@ -7,7 +7,6 @@ ghost use Prim.Native.Nat.{_+_, _*_, _≤_, _<_, _^_};
 ghost use lib.ListN.{length};
 ghost use lib.Seq.{sets};
 ghost use Rattle.image_write.specs.Bytes.{le, cat, magic};
-ghost use Rattle.image_write.specs.Encode.{Tables};
 ghost use Rattle.image.specs.Read.{objectIn, enter, entered, domainOf, domainsIn, eqs, fieldsOk, headed, isImage, sized, ReadIs, Fresh, Decoded};
 use image_write::DOMAIN;
 use image_write::HEADER;

@@ -3,8 +3,8 @@
 // Promised of `write`: VALUE for tables that break a rule, then ROOM, else the image and its length; what lies behind it stays.
 ghost use mathlib.Core.Path.{_≡_};
 ghost use mathlib.Core.List.{_++_};
-ghost use Prim.Native.Nat.{_+_, _*_, _-_, _<_, _≤_};
-ghost use lib.ListN.{length, take, drop};
+ghost use Prim.Native.Nat.{_+_, _*_, _<_, _≤_};
+ghost use lib.ListN.{length};
 ghost use lib.Seq.{sets};
 ghost use Rattle.image_write.specs.Bytes.{bytes, cat, magic};
 ghost use Rattle.image_write.specs.Encode.{objectBytes, threadBytes, domainBytes, domainsBytes, top, live, header, encode, Written, Roomy};
