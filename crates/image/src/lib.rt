@@ -241,7 +241,9 @@ fn is_image(image: &[u8], t: usize, objects: &[u64], threads: &[u32], slots: &[u
         return false;
     }
     let k = w.value as usize;
-    same(&out[..k], &image[..t])
+    let again = &out[..k];
+    let there = &image[..t];
+    same(again, there)
 }
 
 fn is_sized(m: usize, n: usize, k: usize) -> bool
