@@ -153,15 +153,14 @@ answers-one s log out n = put-length (answersTo s log out n) n (heard (ranTo s l
 pub told-length : {s : State} {bs : List ℕ} {k : ℕ} {out os ts ss out′ : List ℕ} → Told s bs k out os ts ss out′ → length out′ ≡ length out
 told-length {s} {bs} {k} {out} p = ap length (p .buffer) ∙ put-length out k (heard s bs)
 
--- the k-th part, as the code cuts it: sixteen bytes, a call
+-- the k-th part, as the code cuts it
 pub told-at :
-    (s : State) (log : List ℕ) (k : ℕ) {c : Call} {r : Answer} {os ts ss out out′ : List ℕ} → 16 * k + 16 ≤ length log →
-    c ≡ callOf (take (16 * k + 16 - 16 * k) (drop (16 * k) log)) → Stepped (judge s c) (after s c) r os ts ss → out′ ≡ putAnswer out k r →
-    Told s (partAt log k) k out os ts ss out′
-told-at s log k h e p q =
-    let n : 16 * k + 16 - 16 * k ≡ 16 = omega arith in
-    let l : length (partAt log k) ≡ 16 = omega (arith, length-take 16 (drop (16 * k) log), length-drop (16 * k) log) in
-    told s (partAt log k) k (hear-whole s (partAt log k) l (rw n at e) p) q
+    (s : State) (log : List ℕ) (k : ℕ) {r : Answer} {os ts ss out out′ : List ℕ} →
+    Stepped (heard s (take (16 * k + 16 - 16 * k) (drop (16 * k) log))) (left s (take (16 * k + 16 - 16 * k) (drop (16 * k) log))) r os ts ss →
+    out′ ≡ putAnswer out k r → Told s (partAt log k) k out os ts ss out′
+told-at s log k p q =
+    let e : 16 * k + 16 - 16 * k ≡ 16 = omega arith in
+    told s (partAt log k) k (rw e at p) q
 
 module _ (s : State) (log out : List ℕ) where
   -- nothing yet

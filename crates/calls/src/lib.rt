@@ -95,8 +95,7 @@ fn turn(
     ensures { λ _. ⌜ Told (stateOf (now (objects .entry)) (now (threads .entry)) (now (slots .entry))) (partAt (now (log .entry)) k) k (now (out .entry)) (now (objects .exit)) (now (threads .exit)) (now (slots .exit)) (now (out .exit)) ⌝ }
 {
     let from = CALL * k;
-    let c = judging::decode(&log[from..from + CALL]);
-    let a = step(objects, threads, slots, c);
+    let a = hear(objects, threads, slots, &log[from..from + CALL]);
     put_answer(out, k, a);
 }
 
