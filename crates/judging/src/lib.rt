@@ -654,7 +654,7 @@ fn judge_sized(objects: &[u64], threads: &[u32], slots: &[u32], c: Call) -> Answ
     if me.role != 2 {
         return plain_answer(EPERM);
     }
-    supervisor_call(objects, threads, slots, c)
+    supervisor_call(&objects[..], &threads[..], &slots[..], c)
 }
 
 fn is_sized(objects: usize, threads: usize, slots: usize) -> bool
