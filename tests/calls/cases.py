@@ -77,6 +77,13 @@ APART = {
 }
 
 
+def shadowed(op, name):
+    """Refusals that never hold without a later one of the same answer, so that leaving them out would change no answer."""
+    return ((name == 'handle number' and op != 16)  # reads as free
+            or (name == 'dead caller' and op != 'unknown' and op >= 16)  # no supervisor either
+            or (name == 'caller number' and op == 'unknown') or name == 'size 0')  # no active slot has size 0
+
+
 def pairs(op):
     return [p for p in combinations(order(op), 2) if p not in APART]
 
@@ -644,8 +651,8 @@ def play_refusals(w, r, i, s, refused):
             w.run(b''.join(whole) + short, 2 * len(whole) + (2 if short else 0) + r.choice((0, 0, 1, 2)) * (len(whole) < 120))
 
 
-def play_beside(w, i, s, refused):
-    """Each refusal once more on the state with one number in it raised, so that a rule is broken."""
+def play_beside(w, i, s, refused, good):
+    """Each refusal, and a call that is answered OK, once more on the state with one number in it raised, so that a rule is broken."""
     w.load(s.tables())
     table, place, more = ((1, 3 * 40 + 1, 8), (2, 3 * (16 * 6 + 9) + 2, 8), (0, 2 * 100, 4096))[i % 3]
     w.write(table, place, w.tables[table][place] + more)
@@ -655,7 +662,7 @@ def play_beside(w, i, s, refused):
         for (name, _), (n, at, bs) in sorted(refused[op].items()):
             if at == i and (name not in first or n < first[name][0]):
                 first[name] = (n, bs)
-        for _, bs in first.values():
+        for bs in [bs for _, bs in first.values()] + good.get((op, i), [])[:1]:
             w.call(bs, pretend=s)
 
 
@@ -706,6 +713,17 @@ def play_edges(w, r, s):
     w.run(call * 128, 255)
     w.run(call * 128, 256)
     w.run(call * 127 + call[:7], 256)
+
+
+def play_full(w, s):
+    """Every domain is full: a window that meets none of its slots finds no place, and the place of a slot that was removed is found again."""
+    w.load(s.tables())
+    caller = [s.supervisor(t) for t in range(64)].index(True)
+    for d in range(8):
+        start, size, attr = s.domains[d][(7 * d + 15) % 16]
+        for bs in (pack(27, caller, d, 0x90000000, 64, 3), pack(28, caller, d, start, size), pack(27, caller, d, 0x90000000, 64, 3),
+                   pack(27, caller, d, start, size, attr), pack(28, caller, d, 0x90000000, 64), pack(27, caller, d, start, size, attr)):
+            w.call(bs)
 
 
 def play_fields(w, states, good):
@@ -771,8 +789,9 @@ def make():
     play_walks(w, r, states[:4])
     for i, s in enumerate(states):
         play_refusals(w, r, i, s, refused)
-        play_beside(w, i, s, refused)
+        play_beside(w, i, s, refused, good)
         play_good(w, r, i, s, good)
+    play_full(w, states[5])
     return w
 
 
@@ -786,14 +805,14 @@ def table(title, rows, counts, columns):
 
 
 class Met:
-    """Counts over the program's lines: answers by operation, and pairs of refusals whose earlier one gave the answer."""
+    """Counts over the program's lines: answers by operation, pairs of refusals whose earlier one gave the answer, and refusals without which the
+    answer would be another."""
 
     def __init__(self, w, lines):
-        self.calls, self.parts, self.logs, self.pairs, self.moved = {}, {}, {}, {}, 0
-        last = None
+        self.calls, self.parts, self.logs, self.pairs, self.decides = {}, {}, {}, {}, {}
         for what, line in zip(w.met, lines):
             words = line.split()
-            code, value = int(words[1]), int(words[2])
+            code = int(words[1])
             if words[0] == 'call':
                 self.add(self.calls, (what[0], code))
                 self.pair(what[0], what[1], code)
@@ -807,9 +826,11 @@ class Met:
         counts[key] = counts.get(key, 0) + 1
 
     def pair(self, op, names, code):
-        for other in names[1:]:
-            if code == CODE[op, names[0]]:
+        if names and code == CODE[op, names[0]]:
+            for other in names[1:]:
                 self.add(self.pairs, (op, names[0], other))
+            if names[1:2] == [] or CODE[op, names[1]] != code:
+                self.add(self.decides, (op, names[0]))
 
     def text(self):
         columns = [OK, EINVAL, EPERM, EBADF, EADDRINUSE, ENOSPC, ENOENT, SHORT, VALUE]
@@ -867,6 +888,9 @@ def judge_met(tally, w, lines):
     for op in ROWS + ['log']:
         for pair in all_pairs(op):
             tally.say((op, *pair) in met.pairs, f'{op}: {pair[0]} before {pair[1]} not met')
+    for op in ROWS:
+        for name in order(op):
+            tally.say(((op, name) in met.decides) != shadowed(op, name), f'{op}: {name} decides {met.decides.get((op, name), 0)} times')
     for op, names, *_ in w.met:
         for pair in combinations(names, 2):
             if pair in APART and names[0] != 'state':
