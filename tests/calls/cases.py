@@ -8,8 +8,9 @@
 How the log is made (seeded, SEED below): six sound states are written here by hand or drawn. For each operation, calls are drawn on each of them with
 fields from the edges (`draw`), and the model says which refusals hold of a call, each judged for itself and not up to the first one. Of each pair of
 refusals the call is kept in which the pair's earlier one is the first that holds and as few others hold as were found. What is kept is played as
-single calls and again as logs; then come, per operation, calls that are answered OK, each followed by writing the state back; every kept refusal once
-more on a state that breaks a rule; each rule broken by itself; logs and buffers of all sorts of lengths; and walks, where calls build on each other.
+single calls and again as logs, and each refusal once more on a state that breaks a rule. With them go, per operation, calls that are answered OK, the
+state written back after each; before them document 01's own edges, logs and buffers of all sorts of lengths, each rule broken by itself, each field of a
+good call set to numbers around its range's end, and walks, where calls build on each other. `make` has the order.
 
 The model is written from document 01 and READINGS 1 to 15 and 31 and shares nothing with the crates: an object's rights are a table of 64 yes/no
 entries, threads are records or None, and a memory check walks a sorted list of windows.
@@ -310,7 +311,6 @@ def change(s, bs):
     elif op == 21:
         o[1] |= INITIALISED
         o[2] = [t == caller for t in range(64)]
-        s.objects[a] = o
     elif op == 22:
         o[1] |= PUBLIC
     elif op == 23:
