@@ -5,8 +5,9 @@ use native.Mathlib.Omega.{arith}
 use mathlib.Core.Path.{_≡_, refl, sym, ap, _∙_}
 use mathlib.Core.Logic.{_≢_}
 use mathlib.Core.Bool.{true, false}
-use mathlib.Core.List.{List}
-use lib.ListN.{length, set, take, drop, length-set, length-take, length-drop}
+use mathlib.Core.List.{List, [], _∷_}
+use lib.Seq.{take-all}
+use lib.ListN.{length, getD, set, take, drop, length-set, length-take, length-drop}
 use borrow.Author.Tests.{eq-eqb, ne-eqb, lt-ltb, le-ltb}
 use Rattle.answer.specs.declared.Answer.{Answer}
 use Rattle.answer.specs.declared.Code.the-variants.{Ok, Short, Einval, Value, Room}
@@ -153,14 +154,15 @@ answers-one s log out n = put-length (answersTo s log out n) n (heard (ranTo s l
 pub told-length : {s : State} {bs : List ℕ} {k : ℕ} {out os ts ss out′ : List ℕ} → Told s bs k out os ts ss out′ → length out′ ≡ length out
 told-length {s} {bs} {k} {out} p = ap length (p .buffer) ∙ put-length out k (heard s bs)
 
--- the k-th part, as the code cuts it
+-- the k-th part, as the code cuts it: sixteen bytes, a call
 pub told-at :
-    (s : State) (log : List ℕ) (k : ℕ) {r : Answer} {os ts ss out out′ : List ℕ} →
-    Stepped (heard s (take (16 * k + 16 - 16 * k) (drop (16 * k) log))) (left s (take (16 * k + 16 - 16 * k) (drop (16 * k) log))) r os ts ss →
-    out′ ≡ putAnswer out k r → Told s (partAt log k) k out os ts ss out′
-told-at s log k p q =
-    let e : 16 * k + 16 - 16 * k ≡ 16 = omega arith in
-    told s (partAt log k) k (rw e at p) q
+    (s : State) (log : List ℕ) (k : ℕ) {c : Call} {r : Answer} {os ts ss out out′ : List ℕ} → 16 * k + 16 ≤ length log →
+    c ≡ callOf (take (16 * k + 16 - 16 * k) (drop (16 * k) log)) → Stepped (judge s c) (after s c) r os ts ss → out′ ≡ putAnswer out k r →
+    Told s (partAt log k) k out os ts ss out′
+told-at s log k h e p q =
+    let n : 16 * k + 16 - 16 * k ≡ 16 = omega arith in
+    let l : length (partAt log k) ≡ 16 = omega (arith, length-take 16 (drop (16 * k) log), length-drop (16 * k) log) in
+    told s (partAt log k) k (hear-whole s (partAt log k) l (rw n at e) p) q
 
 module _ (s : State) (log out : List ℕ) where
   -- nothing yet
@@ -203,6 +205,23 @@ module _ (s : State) (log out : List ℕ) where
       {k : ℕ} {os ts ss out₁ : List ℕ} → k ≡ length log / 16 → length log % 16 ≡ 0 → Ranged s log out k os ts ss out₁ →
       Ranged s log out (partsIn (length log)) os ts ss out₁
   ran-even {k} e z p = let all : k ≡ partsIn (length log) = rw (eq-eqb _ 0 z) (omega (arith, e)) in ran-all all p
+
+-- a log of one call
+only-part : (bs : List ℕ) → length bs ≡ 16 → partAt bs 0 ≡ bs
+only-part bs h = take-all 16 bs (omega arith)
+
+pub heard-one :
+    (s : State) (bs : List ℕ) (a b : ℕ) {os ts ss out : List ℕ} → length bs ≡ 16 → Ranged s bs (a ∷ b ∷ []) 1 os ts ss out →
+    Stepped (heard s bs) (left s bs) (record { code = getD out 0 0; value = getD out 1 0 }) os ts ss
+unfolding ranTo answersTo putAnswer
+heard-one s bs a b h p =
+    record {
+      answer =
+          ap (λ (x : List ℕ). record { code = getD x 0 0; value = getD x 1 0 }) (p .buffer)
+          ∙ ap (λ (x : List ℕ). heard s x) (only-part bs h);
+      state = p .state ∙ ap (λ (x : List ℕ). left s x) (only-part bs h);
+      sound = p .sound;
+    }
 
 -- the buffer's length stays, and has room for a last part
 pub ranged-length :

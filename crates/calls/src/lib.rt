@@ -40,39 +40,6 @@ fn step(objects: &mut [u64], threads: &mut [u32], slots: &mut [u32], c: Call) ->
     r
 }
 
-// Bytes as they come: fewer than sixteen are SHORT, more EINVAL.
-fn hear(objects: &mut [u64], threads: &mut [u32], slots: &mut [u32], bytes: &[u8]) -> Answer
-    requires { ⌜ Sound (now objects) (now threads) (now slots) ⌝ }
-    ensures { λ r. ⌜ Stepped (heard (stateOf (now (objects .entry)) (now (threads .entry)) (now (slots .entry))) (now (bytes .entry))) (left (stateOf (now (objects .entry)) (now (threads .entry)) (now (slots .entry))) (now (bytes .entry))) r (now (objects .exit)) (now (threads .exit)) (now (slots .exit)) ⌝ }
-{
-    if bytes.len() < CALL {
-        return Answer {
-            code: answer::SHORT,
-            value: 0,
-        };
-    }
-    if CALL < bytes.len() {
-        return Answer {
-            code: answer::EINVAL,
-            value: 0,
-        };
-    }
-    step(objects, threads, slots, judging::decode(bytes))
-}
-
-// One call: any tables, any bytes. A state that breaks a rule is VALUE before all else.
-pub fn call(objects: &mut [u64], threads: &mut [u32], slots: &mut [u32], bytes: &[u8]) -> Answer
-    ensures { λ r. ⌜ Called (now (objects .entry)) (now (threads .entry)) (now (slots .entry)) (now (bytes .entry)) r (now (objects .exit)) (now (threads .exit)) (now (slots .exit)) ⌝ }
-{
-    if rules::keeps(objects, threads, slots) {
-        return hear(objects, threads, slots, bytes);
-    }
-    Answer {
-        code: answer::VALUE,
-        value: 0,
-    }
-}
-
 fn put_answer(out: &mut [u32], k: usize, a: Answer)
     requires { ⌜ 2 * k + 1 < length (now out) ⌝ }
     ensures { λ _. ⌜ now (out .exit) ≡ putAnswer (now (out .entry)) k a ⌝ }
@@ -95,7 +62,8 @@ fn turn(
     ensures { λ _. ⌜ Told (stateOf (now (objects .entry)) (now (threads .entry)) (now (slots .entry))) (partAt (now (log .entry)) k) k (now (out .entry)) (now (objects .exit)) (now (threads .exit)) (now (slots .exit)) (now (out .exit)) ⌝ }
 {
     let from = CALL * k;
-    let a = hear(objects, threads, slots, &log[from..from + CALL]);
+    let c = judging::decode(&log[from..from + CALL]);
+    let a = step(objects, threads, slots, c);
     put_answer(out, k, a);
 }
 
@@ -115,6 +83,45 @@ fn run_whole(
     while k < n {
         turn(objects, threads, slots, log, k, out);
         k += 1;
+    }
+}
+
+// Bytes as they come: fewer than sixteen are SHORT, more EINVAL. Sixteen are a log of one call, so that the loop above is the only place that steps, and is
+// compiled as one piece.
+fn hear(objects: &mut [u64], threads: &mut [u32], slots: &mut [u32], bytes: &[u8]) -> Answer
+    requires { ⌜ Sound (now objects) (now threads) (now slots) ⌝ }
+    ensures { λ r. ⌜ Stepped (heard (stateOf (now (objects .entry)) (now (threads .entry)) (now (slots .entry))) (now (bytes .entry))) (left (stateOf (now (objects .entry)) (now (threads .entry)) (now (slots .entry))) (now (bytes .entry))) r (now (objects .exit)) (now (threads .exit)) (now (slots .exit)) ⌝ }
+{
+    if bytes.len() < CALL {
+        return Answer {
+            code: answer::SHORT,
+            value: 0,
+        };
+    }
+    if CALL < bytes.len() {
+        return Answer {
+            code: answer::EINVAL,
+            value: 0,
+        };
+    }
+    let mut out = [0u32; 2];
+    run_whole(objects, threads, slots, bytes, 1, &mut out);
+    Answer {
+        code: out[0],
+        value: out[1],
+    }
+}
+
+// One call: any tables, any bytes. A state that breaks a rule is VALUE before all else.
+pub fn call(objects: &mut [u64], threads: &mut [u32], slots: &mut [u32], bytes: &[u8]) -> Answer
+    ensures { λ r. ⌜ Called (now (objects .entry)) (now (threads .entry)) (now (slots .entry)) (now (bytes .entry)) r (now (objects .exit)) (now (threads .exit)) (now (slots .exit)) ⌝ }
+{
+    if rules::keeps(objects, threads, slots) {
+        return hear(objects, threads, slots, bytes);
+    }
+    Answer {
+        code: answer::VALUE,
+        value: 0,
     }
 }
 
