@@ -27,8 +27,7 @@ use Rattle.judging.specs.Calls.{create, delete, revoke, init, uninit, recycle, 
 use Rattle.judging.specs.Judge.{done, refused, _⇒_⨾_, live, supervisor, typeOf, mayUse, serves, modeOf, wellFormed, partitionOf, slotAnswer, Use, noHandle, taken, free, useOf, withHandle, rule, supRule, isUnknown, isPrivileged, judgeOp, judge, heard}
 use Rattle.judging.specs.Change.{change, after, left}
 use Rattle.call_laws.proofs.Cascade.{stop, pass, past, Test, firstOf, testAt, FirstAt, None, Verdict, by, none, verdict, refuses, lets, Refusals, refusals-append, By, same-name, ok-exactly, code-exactly}
-use Rattle.mem_check.proofs.Memory.{Least}
-use Rattle.call_laws.proofs.Bytes.{run-all, run-least}
+use Rattle.call_laws.proofs.Bytes.{Least, run-all, run-least}
 use Rattle.call_laws.proofs.Conditions.{Mode, Fields, fields-iff}
 
 -- ---- the tests
