@@ -3,6 +3,8 @@
 // memory check; fixed arrays, so that its indices need few tests.
 use std::time::Instant;
 
+mod seeded;
+
 extern "C" {
     fn wardlatch_run(
         objects: *mut u64, objects_len: usize, threads: *mut u32, threads_len: usize, slots: *mut u32, slots_len: usize,
@@ -127,62 +129,12 @@ impl State {
 
 // ---- the input, seeded
 
-struct Rng(u64);
-
-impl Rng {
-    fn below(&mut self, n: u64) -> u64 {
-        self.0 ^= self.0 << 13;
-        self.0 ^= self.0 >> 7;
-        self.0 ^= self.0 << 17;
-        (self.0 >> 11) % n
+fn plain(s: &seeded::State) -> State {
+    State {
+        objects: s.objects.map(|o| KernelObject { obj_type: o.kind, flags: o.flags, perms: std::array::from_fn(|t| o.word >> t & 1 == 1) }),
+        threads: s.threads.map(|t| Thread { role: 1 + t.supervisor as u32, domain: t.domain, handle: t.handle }),
+        domains: s.domains.map(|d| d.map(|p| Partition { start: p.start, size: p.size, attr: p.attr })),
     }
-}
-
-// A full state that keeps the rules: 256 objects, 64 live threads of which 2 are supervisors, 8 domains of 16 windows, some next to each other.
-fn state(r: &mut Rng) -> State {
-    let none = KernelObject { obj_type: 1, flags: 0, perms: [false; 64] };
-    let mut s = State {
-        objects: [none; 256],
-        threads: [Thread { role: 1, domain: 0, handle: 0 }; 64],
-        domains: [[Partition { start: 0, size: 0, attr: 0 }; 16]; 8],
-    };
-    for h in 0..256 {
-        s.objects[h].obj_type = if h < 64 { 1 } else { 2 + r.below(14) as u8 };
-        s.objects[h].flags = (r.below(2) + if r.below(8) == 0 { 2 } else { 0 }) as u8;
-        for t in 0..64 { s.objects[h].perms[t] = r.below(3) != 0; }
-    }
-    for t in 0..64 {
-        s.threads[t] = Thread { role: if t % 32 == 0 { 2 } else { 1 }, domain: r.below(8) as u32, handle: t as u32 };
-    }
-    for d in 0..8 {
-        let mut at = 0x2000_0000u32;
-        for k in 0..16 {
-            let size = 64 + 32 * r.below(32) as u32;
-            s.domains[d][k] = Partition { start: at, size, attr: [1, 3, 3, 7][r.below(4) as usize] };
-            at += size + if r.below(4) == 0 { 32 } else { 0 };
-        }
-        for k in (1..16).rev() { let j = r.below(k as u64 + 1) as usize; s.domains[d].swap(k, j); }
-    }
-    s
-}
-
-fn calls(r: &mut Rng, n: usize) -> Vec<u8> {
-    let mut log = Vec::with_capacity(16 * n);
-    for _ in 0..n {
-        let caller = r.below(64) as u8;
-        let (op, a, b, c, d) = match r.below(3) {
-            0 => (0u8, r.below(256) as u16, [0, 1, 2, 3][r.below(4) as usize], [0, 1, u32::MAX][r.below(3) as usize], 0),
-            1 => (1, r.below(256) as u16, r.below(64) as u32, 0, 0),
-            _ => (3, 0, 0x2000_0000 + 32 * r.below(300) as u32, 1 + r.below(1024) as u32, r.below(2) as u32),
-        };
-        log.push(op);
-        log.push(caller);
-        log.extend_from_slice(&a.to_le_bytes());
-        log.extend_from_slice(&b.to_le_bytes());
-        log.extend_from_slice(&c.to_le_bytes());
-        log.extend_from_slice(&d.to_le_bytes());
-    }
-    log
 }
 
 // ---- the tables of the same state
@@ -223,9 +175,9 @@ fn seconds(f: &mut dyn FnMut()) -> f64 {
 fn main() {
     let argument = |k: usize, other: u64| std::env::args().nth(k).and_then(|x| x.parse().ok()).unwrap_or(other);
     let (n, rounds, seed) = (argument(1, 30000) as usize, argument(2, 40), argument(3, 20261115));
-    let mut r = Rng(seed * 2 + 1);
-    let first = state(&mut r);
-    let log = calls(&mut r, n);
+    let mut r = seeded::Rng::new(seed);
+    let first = plain(&seeded::state(&mut r));
+    let log: Vec<u8> = (0..n).flat_map(|_| seeded::call(&mut r)).collect();
     let (objects, threads, slots) = tables(&first);
     let (mut latch, mut plain) = (Latch { objects, threads, slots }, first.clone());
     let (mut out, mut want) = (vec![0u32; 2 * n], vec![0u32; 2 * n]);
