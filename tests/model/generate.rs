@@ -107,10 +107,10 @@ impl Places {
     fn slot(&self, k: usize) -> usize { self.thread(self.threads) + 12 * k }
 }
 
-const DAMAGE: [&str; 26] = [
+const DAMAGE: [&str; 28] = [
     "none", "bytes behind", "cut in the header", "cut behind it", "cut by one", "magic", "object count", "thread count", "domain count", "total length",
     "object type", "object flags", "object zero", "object word", "last object free", "thread id", "thread supervisor", "thread domain", "thread zero", "thread handle",
-    "thread's end", "two threads swapped", "slot start", "slot size", "slot attr", "any bytes",
+    "thread's end", "two threads swapped", "one id twice", "slot start", "slot size", "slot attr", "slots overlap", "any bytes",
 ];
 
 fn put(image: &mut [u8], at: usize, bytes: &[u8]) {
@@ -150,10 +150,24 @@ fn damage_header(r: &mut Rng, image: &mut Vec<u8>, kind: &str) -> bool {
     true
 }
 
+fn word(image: &[u8], at: usize) -> u32 {
+    image.get(at..at + 4).map_or(0, |b| u32::from_le_bytes([b[0], b[1], b[2], b[3]]))
+}
+
+// Two records name one thread. The bits of the thread that is lost by this go too, or they alone would be the reason to refuse.
+fn one_id_twice(image: &mut [u8], p: &Places, thread: usize, another: usize) {
+    let (Some(&lost), Some(&id)) = (image.get(thread), image.get(another)) else { return };
+    put(image, thread, &[id]);
+    for h in 0..p.objects {
+        let at = p.object(h) + 4 + lost as usize / 8 % 8;
+        if at < image.len() && lost != id { image[at] &= !(1 << (lost % 8)); }
+    }
+}
+
 fn damage_record(r: &mut Rng, image: &mut [u8], p: &Places, kind: &str) {
     let object = p.object(r.below(p.objects.max(1)));
     let (k, l) = (r.below(p.threads.max(1)), r.below(p.threads.max(1)));
-    let (thread, another) = (p.thread(k), p.thread(l));
+    let (thread, another) = (p.thread(k), p.thread(if kind == "one id twice" { k.max(1) - 1 } else { l }));
     let slot = p.slot(r.below(SLOTS * DOMAINS));
     let (two, twelve, eight, anywhere) = (r.below(2), r.below(12), r.below(8), r.below(image.len().max(1)));
     let number = r.number();
@@ -174,8 +188,16 @@ fn damage_record(r: &mut Rng, image: &mut [u8], p: &Places, kind: &str) {
         }
         "thread's end" => spoil(r, image, thread + 6 + two),
         "two threads swapped" => {
-            let (one, two) = (image[thread..].first_chunk::<8>().copied(), image[another..].first_chunk::<8>().copied());
-            if let (Some(one), Some(two)) = (one, two) { put(image, thread, &two); put(image, another, &one); }
+            let record = |at: usize| image.get(at..at + 8).map(|b| b.to_vec());
+            if let (Some(one), Some(two)) = (record(thread), record(another)) { put(image, thread, &two); put(image, another, &one); }
+        }
+        "one id twice" => one_id_twice(image, p, thread, another),
+        "slots overlap" => {
+            // the next slot begins at the last byte of this one
+            let last = p.slot(0) + (slot - p.slot(0)) / 192 * 192 + 180;
+            let (start, size) = (word(image, slot), word(image, slot + 4));
+            let next = if slot == last { slot - 12 } else { slot + 12 };
+            if size > 0 { for (k, n) in [start + size - 1, 1, 1].into_iter().enumerate() { put(image, next + 4 * k, &n.to_le_bytes()); } }
         }
         "slot start" => put(image, slot, &number.to_le_bytes()),
         "slot size" => put(image, slot + 4, &number.to_le_bytes()),
