@@ -9,9 +9,11 @@ use std::io::{Read, Write};
 
 mod error;
 mod mem_domain;
+mod upstream;
 mod userspace;
 
 use mem_domain::{MemDomain, MemPartition};
+use upstream::{number, record, TYPES};
 use userspace::{InitCheck, KernelObject, ObjType};
 
 const HANDLES: usize = 256;
@@ -20,11 +22,6 @@ const DOMAINS: usize = 8;
 
 // Bytes read at a time, and bytes of output that wait.
 const CHUNK: usize = 1 << 16;
-
-const TYPES: [ObjType; 16] = [
-    ObjType::Any, ObjType::Thread, ObjType::Sem, ObjType::Mutex, ObjType::CondVar, ObjType::MsgQ, ObjType::Stack, ObjType::Pipe,
-    ObjType::Timer, ObjType::Event, ObjType::MemSlab, ObjType::Fifo, ObjType::Lifo, ObjType::SysMutex, ObjType::Futex, ObjType::Mbox,
-];
 
 #[derive(Clone, Copy)]
 struct Thread { live: bool, supervisor: bool, domain: u8, handle: u16 }
@@ -42,16 +39,9 @@ const OK: Answer = Answer { code: 0, value: 0 };
 const EINVAL: Answer = Answer { code: 1, value: 0 };
 const EPERM: Answer = Answer { code: 2, value: 0 };
 const EBADF: Answer = Answer { code: 3, value: 0 };
-const EADDRINUSE: Answer = Answer { code: 4, value: 0 };
 
 fn answer_of(errno: i32) -> Answer {
-    match errno {
-        error::OK => OK,
-        error::EPERM => EPERM,
-        error::EBADF => EBADF,
-        error::EADDRINUSE => EADDRINUSE,
-        _ => EINVAL,
-    }
+    Answer { code: number(errno), value: 0 }
 }
 
 // ---- the image: the benchmark's own, so a bad one ends the program
@@ -65,13 +55,7 @@ fn u32_at(b: &[u8], i: usize) -> u32 {
 }
 
 fn object(b: &[u8]) -> KernelObject {
-    let mut o = KernelObject::new(TYPES[b[0] as usize]);
-    o.flag_initialized = b[1] & 1 != 0;
-    o.flag_public = b[1] & 2 != 0;
-    o.flag_alloc = b[1] & 4 != 0;
-    o.flag_driver = b[1] & 8 != 0;
-    for t in 0..THREADS { o.thread_perms[t] = b[4 + t / 8] >> (t % 8) & 1 == 1; }
-    o
+    record(b[0], b[1], u32_at(b, 4) as u64 + ((u32_at(b, 8) as u64) << 32))
 }
 
 fn domain(b: &[u8]) -> MemDomain {

@@ -10,37 +10,16 @@ use std::collections::BTreeMap;
 use std::io::{Read, Write};
 
 mod model;
+mod rng;
 use model::*;
+use rng::Rng;
 
 // ---- chance
 
-struct Rng(u64);
-
-impl Rng {
-    fn next(&mut self) -> u64 {
-        self.0 = self.0.wrapping_add(0x9E3779B97F4A7C15);
-        let x = (self.0 ^ (self.0 >> 30)).wrapping_mul(0xBF58476D1CE4E5B9);
-        let x = (x ^ (x >> 27)).wrapping_mul(0x94D049BB133111EB);
-        x ^ (x >> 31)
-    }
-
-    fn below(&mut self, n: usize) -> usize {
-        (self.next() % n as u64) as usize
-    }
-
-    fn one_in(&mut self, n: usize) -> bool {
-        self.below(n) == 0
-    }
-
-    fn pick<T: Copy>(&mut self, from: &[T]) -> T {
-        from[self.below(from.len())]
-    }
-
-    // A number near the edges of a field of 32 bits, or anywhere in it.
-    fn number(&mut self) -> u32 {
-        let edge = self.pick(&[0u32, 1, 2, 7, 8, 15, 16, 63, 64, 254, 255, 256, 65535, 65536, 0x7FFFFFFF, 0x80000000, 0xFFFFFFFE, 0xFFFFFFFF]);
-        if self.one_in(4) { self.next() as u32 } else { edge }
-    }
+// A number near the edges of a field of 32 bits, or anywhere in it.
+fn number(r: &mut Rng) -> u32 {
+    let edge = r.pick(&[0u32, 1, 2, 7, 8, 15, 16, 63, 64, 254, 255, 256, 65535, 65536, 0x7FFFFFFF, 0x80000000, 0xFFFFFFFE, 0xFFFFFFFF]);
+    if r.one_in(4) { r.next() as u32 } else { edge }
 }
 
 // ---- good states
@@ -138,7 +117,7 @@ fn damage_header(r: &mut Rng, image: &mut Vec<u8>, kind: &str) -> bool {
         "cut behind it" => image.truncate(16 + most),
         "cut by one" => image.truncate(total.saturating_sub(1)),
         "magic" => spoil(r, image, eight),
-        "object count" => { let n = r.number() as u16; put(image, 8, &n.to_le_bytes()); }
+        "object count" => { let n = number(r) as u16; put(image, 8, &n.to_le_bytes()); }
         "thread count" => spoil(r, image, 10),
         "domain count" => spoil(r, image, 11),
         "total length" => {
@@ -170,7 +149,7 @@ fn damage_record(r: &mut Rng, image: &mut [u8], p: &Places, kind: &str) {
     let (thread, another) = (p.thread(k), p.thread(if kind == "one id twice" { k.max(1) - 1 } else { l }));
     let slot = p.slot(r.below(SLOTS * DOMAINS));
     let (two, twelve, eight, anywhere) = (r.below(2), r.below(12), r.below(8), r.below(image.len().max(1)));
-    let number = r.number();
+    let number = number(r);
     match kind {
         "object type" => spoil(r, image, object),
         "object flags" => spoil(r, image, object + 1),
@@ -258,8 +237,8 @@ fn some_caller(r: &mut Rng, s: &State) -> u8 {
 fn some_range(r: &mut Rng, slots: &[Option<Partition>]) -> (u32, u32) {
     let active: Vec<Partition> = slots.iter().flatten().copied().collect();
     if active.is_empty() || r.one_in(8) {
-        let start = r.number();
-        return (start, if r.one_in(2) { (TOP - start as u64) as u32 } else { r.number() });
+        let start = number(r);
+        return (start, if r.one_in(2) { (TOP - start as u64) as u32 } else { number(r) });
     }
     let (p, q) = (r.pick(&active), r.pick(&active));
     let within = r.next() as u32 % p.size;
@@ -318,7 +297,7 @@ fn some_call(r: &mut Rng, s: &State) -> Call {
     // one thing wrong, or now and then two
     let faults = match r.below(24) { 0..=3 => 1, 4 => 2, _ => 0 };
     for _ in 0..faults {
-        let n = r.number();
+        let n = number(r);
         match r.below(4) { 0 => call.a = n as u16, 1 => call.b = n, 2 => call.c = n, _ => call.d = n }
     }
     call

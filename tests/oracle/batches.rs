@@ -3,8 +3,10 @@
 // length in front (u32); the programs read at most 65,536 bytes of steps.
 use crate::mem_domain::{partition_valid_decide, partitions_overlap_decide, MemDomain, MemPartition};
 use crate::userspace::{self, KernelObject};
-use crate::{flags_of, number, record, removed, slot_answer, validate, verdict, word_of, Rng, Tally};
-use crate::{EINVAL, ENOENT, FAR_QUERY, FAR_RECYCLE, TOP, TYPES, WRONG_COUNT};
+use crate::rng::Rng;
+use crate::upstream::{number, record, TYPES};
+use crate::{flags_of, removed, slot_answer, some_thread, validate, verdict, word_of, Tally};
+use crate::{EINVAL, ENOENT, FAR_QUERY, FAR_RECYCLE, TOP, WRONG_COUNT};
 use std::io::Write;
 
 fn yes(b: bool) -> &'static str {
@@ -29,7 +31,7 @@ impl Ask {
         let op = r.pick(&[0, 0, 1, 2, 2, 2, 3, 3, 4, 5, 6, 7, 8, 9, 10, 10, 10, 11, 11, 11, 11, 12, 12]);
         let (a, c) = match op { 0 | 1 | 11 => (r.below(16), 3), 12 => (r.below(8), 7), _ => (r.below(2), 1) };
         let b = if op == 0 || op == 12 { r.below(256) } else { r.below(2) };
-        Ask { op, a: a as u8, b: b as u8, c: r.below(c) as u8, n: r.thread(), w: r.next() & r.next() }
+        Ask { op, a: a as u8, b: b as u8, c: r.below(c) as u8, n: some_thread(r), w: r.next() & r.next() }
     }
 
     fn bytes(&self) -> Vec<u8> {

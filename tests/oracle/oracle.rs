@@ -11,10 +11,14 @@ use std::collections::BTreeMap;
 mod batches;
 mod error;
 mod mem_domain;
+mod rng;
+mod upstream;
 mod userspace;
 
 use mem_domain::{MemDomain, MemPartition};
-use userspace::{InitCheck, KernelObject, ObjType};
+use rng::Rng;
+use upstream::{number, record, TYPES};
+use userspace::{InitCheck, KernelObject};
 
 extern "C" {
     fn userspace_grant(word: *mut u64, tid: u32) -> u32;
@@ -29,30 +33,11 @@ extern "C" {
     ) -> u32;
 }
 
-// ---- what upstream's values are here
-
-pub const TYPES: [ObjType; 16] = [
-    ObjType::Any, ObjType::Thread, ObjType::Sem, ObjType::Mutex, ObjType::CondVar, ObjType::MsgQ, ObjType::Stack, ObjType::Pipe,
-    ObjType::Timer, ObjType::Event, ObjType::MemSlab, ObjType::Fifo, ObjType::Lifo, ObjType::SysMutex, ObjType::Futex, ObjType::Mbox,
-];
+// ---- upstream's answers
 
 pub const EINVAL: u32 = 1;
 pub const ENOENT: u32 = 6;
 pub const TOP: u32 = u32::MAX;
-
-// Document 01's number for upstream's value.
-pub fn number(errno: i32) -> u32 {
-    match errno {
-        error::OK => 0,
-        error::EINVAL => EINVAL,
-        error::EPERM => 2,
-        error::EBADF => 3,
-        error::EADDRINUSE => 4,
-        error::ENOSPC => 5,
-        error::ENOENT => ENOENT,
-        other => panic!("upstream answers {other}"),
-    }
-}
 
 pub fn verdict(r: Result<(), i32>) -> u32 {
     r.map_or_else(number, |()| 0)
@@ -63,21 +48,11 @@ pub fn slot_answer(r: Result<u32, i32>) -> (u32, u32) {
     r.map_or_else(|errno| (number(errno), 0), |slot| (0, slot))
 }
 
-// Upstream has four flags; the bits above them have no meaning there and are carried beside the record.
-pub fn record(kind: u8, flags: u8, word: u64) -> KernelObject {
-    let mut o = KernelObject::new(TYPES[kind as usize]);
-    o.flag_initialized = flags & 1 != 0;
-    o.flag_public = flags & 2 != 0;
-    o.flag_alloc = flags & 4 != 0;
-    o.flag_driver = flags & 8 != 0;
-    o.thread_perms = std::array::from_fn(|t| word >> t & 1 == 1);
-    o
-}
-
 pub fn word_of(o: &KernelObject) -> u64 {
     o.thread_perms.iter().rev().fold(0, |w, &held| 2 * w + held as u64)
 }
 
+// Flag bits above upstream's four are carried beside the record.
 pub fn flags_of(o: &KernelObject, above: u8) -> u8 {
     o.flag_initialized as u8 + 2 * o.flag_public as u8 + 4 * o.flag_alloc as u8 + 8 * o.flag_driver as u8 + (above & 0xF0)
 }
@@ -96,31 +71,12 @@ fn raw(o: &KernelObject, expected: u8, tid: u32, supervisor: bool, mode: i32) ->
 
 // ---- counting
 
-pub struct Rng(pub u64);
-
-impl Rng {
-    pub fn next(&mut self) -> u64 {
-        self.0 = self.0.wrapping_add(0x9E3779B97F4A7C15);
-        let x = (self.0 ^ (self.0 >> 30)).wrapping_mul(0xBF58476D1CE4E5B9);
-        let x = (x ^ (x >> 27)).wrapping_mul(0x94D049BB133111EB);
-        x ^ (x >> 31)
-    }
-
-    pub fn below(&mut self, n: usize) -> usize {
-        (self.next() % n as u64) as usize
-    }
-
-    pub fn pick<T: Copy>(&mut self, from: &[T]) -> T {
-        from[self.below(from.len())]
-    }
-
-    // Threads around the limit more often than others.
-    pub fn thread(&mut self) -> u32 {
-        if self.below(4) == 0 { self.pick(&EXTREMES) } else { self.below(71) as u32 }
-    }
-}
-
 pub const EXTREMES: [u32; 9] = [127, 128, 255, 256, 65535, 65536, 0x7FFFFFFF, 0x80000000, u32::MAX];
+
+// Threads around the limit more often than others.
+pub fn some_thread(r: &mut Rng) -> u32 {
+    if r.one_in(4) { r.pick(&EXTREMES) } else { r.below(71) as u32 }
+}
 
 #[derive(Default)]
 pub struct Tally { cases: u64, known: BTreeMap<&'static str, (String, u64)>, wrong: u64 }
@@ -224,7 +180,7 @@ fn every_question(t: &mut Tally, kind: u8, flags: u8, word: u64, tid: u32) {
 
 fn random_leaf_cases(t: &mut Tally, r: &mut Rng, cases: u64) {
     for _ in 0..cases {
-        let (kind, flags, tid) = (r.below(16) as u8, r.next() as u8, r.thread());
+        let (kind, flags, tid) = (r.below(16) as u8, r.next() as u8, some_thread(r));
         let word = match r.below(3) { 0 => r.next() & r.next() & r.next(), 1 => r.next(), _ => r.next() | r.next() | r.next() };
         let expected = r.pick(&[0, kind, r.0 as u8 % 16]);
         let mode = r.pick(&[0, -1, 1, r.0 as i8 as i32, r.0 as i32]);
