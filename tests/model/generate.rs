@@ -143,6 +143,15 @@ fn one_id_twice(image: &mut [u8], p: &Places, thread: usize, another: usize) {
     }
 }
 
+// The next slot of the domain begins at the last byte of this one.
+fn overlap(image: &mut [u8], p: &Places, slot: usize) {
+    let last = p.slot(0) + (slot - p.slot(0)) / 192 * 192 + 180;
+    let (start, size) = (word(image, slot), word(image, slot + 4));
+    let next = if slot == last { slot - 12 } else { slot + 12 };
+    if size == 0 { return; }
+    for (k, n) in [start.wrapping_add(size - 1), 1, 1].into_iter().enumerate() { put(image, next + 4 * k, &n.to_le_bytes()); }
+}
+
 fn damage_record(r: &mut Rng, image: &mut [u8], p: &Places, kind: &str) {
     let object = p.object(r.below(p.objects.max(1)));
     let (k, l) = (r.below(p.threads.max(1)), r.below(p.threads.max(1)));
@@ -171,13 +180,7 @@ fn damage_record(r: &mut Rng, image: &mut [u8], p: &Places, kind: &str) {
             if let (Some(one), Some(two)) = (record(thread), record(another)) { put(image, thread, &two); put(image, another, &one); }
         }
         "one id twice" => one_id_twice(image, p, thread, another),
-        "slots overlap" => {
-            // the next slot begins at the last byte of this one
-            let last = p.slot(0) + (slot - p.slot(0)) / 192 * 192 + 180;
-            let (start, size) = (word(image, slot), word(image, slot + 4));
-            let next = if slot == last { slot - 12 } else { slot + 12 };
-            if size > 0 { for (k, n) in [start + size - 1, 1, 1].into_iter().enumerate() { put(image, next + 4 * k, &n.to_le_bytes()); } }
-        }
+        "slots overlap" => overlap(image, p, slot),
         "slot start" => put(image, slot, &number.to_le_bytes()),
         "slot size" => put(image, slot + 4, &number.to_le_bytes()),
         "slot attr" => put(image, slot + 8, &number.to_le_bytes()),
