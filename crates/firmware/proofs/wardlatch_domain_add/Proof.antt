@@ -24,7 +24,7 @@ settle-requires c κs = search needs
 
 -- src/lib.rt:136:1
 same-length : tie.Need-same-length
-same-length c = search needs
+same-length c = (c .before .before .settle .kept .0)
 
 -- src/lib.rt:136:1
 returns : tie.Need-returns

@@ -21,7 +21,7 @@ plan-requires c κs = search needs
 
 -- src/lib.rt:91:1
 same-length : tie.Need-same-length
-same-length c = search needs
+same-length c = (c .before .before .plan .kept .1 .1 .0)
 
 -- src/lib.rt:91:1
 returns-2 : tie.Need-returns-2

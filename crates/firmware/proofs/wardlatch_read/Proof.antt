@@ -13,15 +13,15 @@ read-requires c κs = search needs
 
 -- src/lib.rt:58:1
 same-length : tie.Need-same-length
-same-length c = search needs
+same-length c = (c .before .before .before .before .before .before .read .kept .1 .0)
 
 -- src/lib.rt:58:1
 same-length-2 : tie.Need-same-length-2
-same-length-2 c = search needs
+same-length-2 c = (c .before .before .before .before .before .before .read .kept .1 .1 .0)
 
 -- src/lib.rt:58:1
 same-length-3 : tie.Need-same-length-3
-same-length-3 c = search needs
+same-length-3 c = (c .before .before .before .before .before .before .read .kept .1 .1 .1 .0)
 
 -- src/lib.rt:58:1
 returns : tie.Need-returns
