@@ -1,6 +1,7 @@
 /* wardlatch, the access latch: what firmware links (target/staticlib/libfirmware.a, made by `rt staticlib firmware`).
  *
- * Every function is total: it answers for all numbers, all bytes and every length, calls nothing, allocates nothing and keeps nothing between calls.
+ * Every function is total: it answers for all numbers, all bytes and every length, allocates nothing and keeps nothing between calls. The archive needs no
+ * function from outside but memcpy, memset, memmove and memcmp, which a compiler may put in.
  * A function returns an answer's number (below), or a bool. A value comes back in a number that the caller lends.
  * On a refusal, an answer other than OK, nothing lent is changed but that number, which becomes 0; one exception: the memory check, see wardlatch_call.
  * What the caller owes, as in all C: each pointer is to as many elements as the length behind it says, is aligned and not null (a length of 0 too),
