@@ -1,7 +1,7 @@
 -- What the exported functions' steps give, over plain variables: each branch of a length test, and what a lower function's promise becomes.
 use Prim.Native.Nat.{ℕ}
-use mathlib.Core.Path.{_≡_, refl, sym, ap, subst, _∙_}
-use mathlib.Core.Bool.{Bool, true, false, cond}
+use mathlib.Core.Path.{_≡_, sym, ap, subst, _∙_}
+use mathlib.Core.Bool.{Bool, true, false}
 use mathlib.Core.List.{List}
 use lib.ListN.{length}
 use borrow.Author.Tests.{eq-eqb, ne-eqb}
@@ -16,7 +16,7 @@ use Rattle.tables.specs.Table.{putDomain}
 use Rattle.mpu.specs.Mpu.{plain, checked}
 use Rattle.planner.specs.Planner.{Planned}
 use Rattle.image.specs.Read.{ReadIs}
-use Rattle.firmware.specs.Lent.{whole, domainIn, judged, said, told, gotIn, behind, Changes, Plans, ReadsLeft}
+use Rattle.firmware.specs.Lent.{whole, domainIn, judged, said, told, gotIn, Changes, Plans, ReadsLeft}
 
 module _ (ws : List ℕ) (is : length ws ≡ 48) where
   is-whole : whole ws ≡ true

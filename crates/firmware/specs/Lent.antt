@@ -8,12 +8,12 @@ use lib.ListN.{length, drop}
 use Rattle.answer.specs.Answer.{numberOf}
 use Rattle.answer.specs.declared.Answer.{Answer}
 use Rattle.answer.specs.declared.Code.the-variants.{Ok, Value}
-use Rattle.mem_domain.specs.Domain.{slots, hasFree, containsAddr, gotNothing, gotten}
+use Rattle.mem_domain.specs.Domain.{slots, gotNothing, gotten}
 use Rattle.mem_domain.specs.declared.MemDomain.{MemDomain}
 use Rattle.mem_domain.specs.declared.Changed.{Changed}
 use Rattle.mem_domain.specs.declared.Got.{Got}
 use Rattle.tables.specs.Table.{domainAt, putDomain}
-use Rattle.mpu.specs.Mpu.{plain, checked}
+use Rattle.mpu.specs.Mpu.{plain}
 use Rattle.planner.specs.Planner.{planned, wordsAfter}
 use Rattle.image.specs.Read.{readCode, afterRead, totalOf, ReadIs}
 

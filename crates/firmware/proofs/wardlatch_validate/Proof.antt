@@ -1,7 +1,5 @@
 use mir.Facts.{toZ-ofZ}
 use mathlib.Core.Path.{_∙_}
-use mathlib.Core.Path.{refl}
-use Rattle.firmware.proofs.Lent.{read-left}
 use borrow.Author.Needs.{needs}
 use Rattle.firmware.proofs.wardlatch_validate.Statement.{statement}
 use Rattle.firmware.proofs.wardlatch_validate.Tie as tie
