@@ -11,7 +11,8 @@ use lib.ListN.{length, take, drop, getD, set, length-drop}
 use lib.Seq.{sets, drop-cons, drop-length, take-all}
 use borrow.Author.Tests.{lt-ltb, le-ltb, eq-eqb, ne-eqb, eqb-true}
 use Rattle.domain_rules.proofs.All.{both-true}
-use Rattle.image_write.specs.Bytes.{value, le, cat}
+use Rattle.answer.specs.Stores.{cat}
+use Rattle.image_write.specs.Bytes.{value, le}
 use Rattle.image_write.proofs.Bytes.{cat-length, cat-turn, part-home}
 use Rattle.image.specs.Read.{objectIn, enter, entered, domainOf, domainIn, eqs}
 

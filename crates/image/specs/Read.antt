@@ -13,7 +13,8 @@ use Rattle.mem_domain.specs.Domain.{slots as SLOTS}
 use Rattle.userspace.specs.Userspace.{THREADS}
 use Rattle.tables.specs.Table.{HANDLES, DOMAINS}
 use Rattle.rules.specs.Rules.{keepsTest}
-use Rattle.image_write.specs.Bytes.{le, cat, magic}
+use Rattle.answer.specs.Stores.{cat}
+use Rattle.image_write.specs.Bytes.{le, magic}
 use Rattle.image_write.specs.Encode.{total, encode}
 
 -- ---- the header

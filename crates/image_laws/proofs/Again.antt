@@ -12,7 +12,8 @@ use lib.ListN.{length, take, drop, getD, length-take, length-drop}
 use lib.Seq.{sets, length-sets, take-add, take-take, drop-drop, take-length, take-all, length-take-le, getD-take, getD-drop}
 use borrow.Author.Tests.{lt-ltb, eq-eqb, ne-eqb}
 use Rattle.tables.specs.Rows.{at3, at3-same, at3-other, getD-sets-out, getD-sets-in}
-use Rattle.image_write.specs.Bytes.{bytes, value, le, cat}
+use Rattle.answer.specs.Stores.{cat}
+use Rattle.image_write.specs.Bytes.{bytes, value, le}
 use Rattle.image_write.specs.Encode.{objectBytes, threadBytes, slotBytes, domainBytes, domainPart, domainsBytes, top, live}
 use Rattle.image_write.proofs.Bytes.{cat-length, cat-same}
 use Rattle.image_write.proofs.Turns.{thread-dead, threads-length}

@@ -14,7 +14,8 @@ use Rattle.userspace.specs.Userspace.{THREADS}
 use Rattle.tables.specs.Table.{HANDLES, DOMAINS}
 use Rattle.tables.specs.State.{stateOf, Fit}
 use Rattle.rules.specs.Rules.{Keeps, Sound}
-use Rattle.image_write.specs.Bytes.{bytes, le, cat, magic}
+use Rattle.answer.specs.Stores.{cat}
+use Rattle.image_write.specs.Bytes.{bytes, le, magic}
 use Rattle.image_write.specs.Encode.{objectBytes, threadBytes, domainsBytes, top, live, total, header, encode}
 use Rattle.image_write.proofs.Bytes.{cat-length, cat-mono}
 use Rattle.image_write.proofs.Turns.{object-length, threads-length, top-most}

@@ -14,7 +14,7 @@ use Rattle.tables.specs.Table.{objectAt, threadAt, partitionAt, partitionsAt}
 use Rattle.rules.specs.Rules.{Sound, keepsTest, liveTo, objectOk, threadOk, threadSound, domainsSound}
 use Rattle.rules.proofs.Rules.{test-sound}
 use Rattle.rules_cases.proofs.Cases.{zeros-keep}
-use Rattle.image_write.specs.Bytes.{cat}
+use Rattle.answer.specs.Stores.{cat}
 use Rattle.image_write.specs.Encode.{top, live, total, encode}
 use Rattle.image_write.proofs.Turns.{encode-length, encode-most}
 use Rattle.image.specs.Read.{totalOf, imageCode}

@@ -8,7 +8,8 @@ use native.Mathlib.Omega.{arith}
 use mathlib.Core.List.{List, [], _∷_, _++_}
 use lib.ListN.{length, take, drop, getD, length-append, length-drop, replicate, length-replicate}
 use lib.Seq.{take-take, take-add, drop-drop, take-suc, drop-cons, getD-drop, ext-getD, take-append-seam, drop-append-seam}
-use Rattle.image_write.specs.Bytes.{bytes, value, le, cat}
+use Rattle.answer.specs.Stores.{cat}
+use Rattle.image_write.specs.Bytes.{bytes, value, le}
 use Rattle.image_write.proofs.Bytes.{bytes-length, cat-length}
 
 -- a number is read after it was written

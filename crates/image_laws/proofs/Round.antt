@@ -16,9 +16,10 @@ use Rattle.answer.specs.declared.Code.the-variants.{Ok, Value}
 use Rattle.domain_rules.proofs.All.{both-true}
 use Rattle.rules.specs.Rules.{Sound, keepsTest}
 use Rattle.rules.proofs.Rules.{test-sound, sound-test}
-use Rattle.image_write.specs.Bytes.{bytes, le, cat, magic}
+use Rattle.answer.specs.Stores.{cat, sets-front}
+use Rattle.image_write.specs.Bytes.{bytes, le, magic}
 use Rattle.image_write.specs.Encode.{objectBytes, threadBytes, slotBytes, domainBytes, domainPart, domainsBytes, top, live, total, header, encode}
-use Rattle.image_write.proofs.Bytes.{bytes-length, cat-length, cat-same, cat-turn, sets-all, sets-front}
+use Rattle.image_write.proofs.Bytes.{bytes-length, cat-length, cat-same, cat-turn, sets-all}
 use Rattle.image_write.proofs.Turns.{live-more, live-same, header-length, object-length, thread-live, slot-length, bytes-domain, threads-length, encode-length, top-most, live-most}
 use Rattle.image.specs.Read.{objectCount, threadCount, domainCount, totalOf, objectIn, readObjects, enter, entered, readThreads, domainOf, domainIn, domainsIn, readSlots, eqs, fieldsOk, headed, isImage, accepted, imageCode}
 use Rattle.image.proofs.Turns.{eqs-true, enter-in}

@@ -16,7 +16,7 @@ use Rattle.tables.specs.Table.{HANDLES}
 use Rattle.rules.specs.Rules.{keepsTest}
 use Rattle.rules.proofs.Rules.{test-sound}
 use Rattle.image_write.specs.Encode.{top, live, total, encode, refusal, written, bytesAfter, Written, Tables}
-use Rattle.image_write.proofs.Bytes.{sets-front}
+use Rattle.answer.specs.Stores.{sets-front}
 use Rattle.image_write.proofs.Turns.{encode-length, encode-most}
 
 -- a state that keeps the rules has tables of the right lengths

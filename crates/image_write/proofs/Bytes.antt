@@ -8,7 +8,8 @@ use mathlib.Core.Path.{_≡_, refl, sym, ap, _∙_}
 use mathlib.Core.List.{List, [], _∷_, _++_, append-assoc, append-nil}
 use lib.ListN.{length, take, drop, getD, set, length-append, length-drop}
 use lib.Seq.{sets, sets-eq, take-at, drop-cons, drop-length, drop-drop, length-take-le}
-use Rattle.image_write.specs.Bytes.{bytes, cat}
+use Rattle.answer.specs.Stores.{cat, sets-append, sets-front}
+use Rattle.image_write.specs.Bytes.{bytes}
 
 pub bytes-length : (n v : ℕ) → length (bytes n v) ≡ n
 unfolding bytes
@@ -52,17 +53,6 @@ cat-more f i = rw add-one refl
 pub cat-room : (f : ℕ → List ℕ) (i n : ℕ) → i < n → length (cat f i) + length (f i) ≤ length (cat f n)
 cat-room f i n h = omega (arith, cat-mono f (i + 1) n (omega arith), ap length (cat-more f i) ∙ length-append (cat f i) (f i))
 
--- two runs of stores, one behind the other
-pub sets-append : (a b l : List ℕ) (i : ℕ) → sets (sets l i a) (i + length a) b ≡ sets l i (a ++ b)
-sets-append [] b l i = rw add-zero refl
-sets-append (x ∷ a) b l i =
-    let e : i + suc (length a) ≡ suc i + length a = omega arith in
-    rw e (sets-append a b (set l i x) (suc i))
-
--- a store right behind a run of stores, where the place is written out
-pub behind : (a b o : List ℕ) (i j : ℕ) {p q : List ℕ} → p ≡ sets o i a → q ≡ sets p j b → i + length a ≡ j → q ≡ sets o i (a ++ b)
-behind a b o i j ep eq e = eq ∙ rw (ep, ← e) (sets-append a b o i)
-
 -- one record more: the law of every loop that writes
 pub cat-turn : (f : ℕ → List ℕ) (m : ℕ) → ((k : ℕ) → length (f k) ≡ m) → (l : List ℕ) (at i : ℕ)
     → sets (sets l at (cat f i)) (at + m * i) (f i) ≡ sets l at (cat f (i + 1))
@@ -72,9 +62,6 @@ cat-turn f m h l at i = rw (← cat-length f m i h, sets-append, add-one) refl
 -- all of a list is stored anew
 pub sets-all : (vs l : List ℕ) → length vs ≡ length l → sets l 0 vs ≡ vs
 sets-all vs l e = sets-eq vs l 0 (omega arith) ∙ rw (zero-add, e, drop-length) (append-nil vs)
-
-pub sets-front : (vs l : List ℕ) → length vs ≤ length l → sets l 0 vs ≡ vs ++ drop (length vs) l
-sets-front vs l h = sets-eq vs l 0 (omega arith) ∙ rw zero-add refl
 
 pub take-sets : (vs l : List ℕ) (k : ℕ) → length vs ≡ k → k ≤ length l → take k (sets l 0 vs) ≡ vs
 take-sets vs l k e h = rw (sets-front vs l (omega arith)) (take-at vs (drop (length vs) l) k e)

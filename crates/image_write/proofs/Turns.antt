@@ -9,9 +9,10 @@ use mathlib.Core.List.{List, [], _++_}
 use lib.ListN.{length, take, drop, getD, length-append}
 use lib.Seq.{sets}
 use borrow.Author.Tests.{eq-eqb, ne-eqb}
-use Rattle.image_write.specs.Bytes.{bytes, cat, magic}
+use Rattle.answer.specs.Stores.{behind, cat}
+use Rattle.image_write.specs.Bytes.{bytes, magic}
 use Rattle.image_write.specs.Encode.{objectBytes, threadBytes, slotBytes, domainBytes, domainPart, domainsBytes, top, live, total, header, encode}
-use Rattle.image_write.proofs.Bytes.{bytes-length, cat-length, cat-turn, behind, part-home}
+use Rattle.image_write.proofs.Bytes.{bytes-length, cat-length, cat-turn, part-home}
 
 pub top-step : (os : List ℕ) (n : ℕ) → 0 < n → getD os (2 * (n - 1)) 0 ≡ 0 → top os n ≡ top os (n - 1)
 unfolding top

@@ -1,6 +1,6 @@
--- Numbers as bytes, the lower first, and records one behind the other: what writer and reader share.
+-- Numbers as bytes, the lower first: what writer and reader share.
 use Prim.Native.Nat.{ℕ, zero, suc, _+_, _*_, _/_, _%_}
-use mathlib.Core.List.{List, [], _∷_, _++_}
+use mathlib.Core.List.{List, [], _∷_}
 use lib.ListN.{take, drop}
 
 -- the n lower bytes of v
@@ -16,11 +16,6 @@ value (b ∷ bs) = value bs * 256 + b
 -- the number of the n bytes at a place
 abbrev pub le : ℕ → List ℕ → ℕ → ℕ
 le n xs at = value (take n (drop at xs))
-
--- records 0 .. n - 1 one behind the other
-unfoldable pub cat : (ℕ → List ℕ) → ℕ → List ℕ
-cat f zero = []
-cat f (suc n) = cat f n ++ f n
 
 -- "WLATCH01"
 abbrev pub magic : List ℕ

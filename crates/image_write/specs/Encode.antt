@@ -14,7 +14,8 @@ use Rattle.mem_domain.specs.Domain.{slots as SLOTS}
 use Rattle.userspace.specs.Userspace.{THREADS}
 use Rattle.tables.specs.Table.{HANDLES, DOMAINS}
 use Rattle.rules.specs.Rules.{keepsTest}
-use Rattle.image_write.specs.Bytes.{bytes, cat, magic}
+use Rattle.answer.specs.Stores.{cat}
+use Rattle.image_write.specs.Bytes.{bytes, magic}
 
 -- object h: type, flags and a u16 zero as one number, and the word
 unfoldable pub objectBytes : List ℕ → ℕ → List ℕ

@@ -2,7 +2,8 @@ use Rattle.image_write.proofs.Bytes.{cat-length}
 use Rattle.image.proofs.Turns.{cat-turn-1}
 use Rattle.image_write.proofs.Bytes.{sets-all}
 use Rattle.image.specs.Read.{domainOf}
-use Rattle.image_write.specs.Bytes.{le, cat}
+use Rattle.answer.specs.Stores.{cat}
+use Rattle.image_write.specs.Bytes.{le}
 use mathlib.Core.Path.{_≡_, refl, sym, ap, _∙_}
 use mathlib.Core.List.{List, [], _∷_}
 use Prim.Native.Nat.{ℕ, _*_, _-_, _≤_}

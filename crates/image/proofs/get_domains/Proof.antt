@@ -2,7 +2,7 @@ use Rattle.image_write.proofs.Bytes.{cat-length}
 use Rattle.image.proofs.Turns.{domain-length, domains-turn}
 use Rattle.image_write.proofs.Bytes.{sets-all, part-length}
 use Rattle.image.specs.Read.{domainIn, domainsIn}
-use Rattle.image_write.specs.Bytes.{cat}
+use Rattle.answer.specs.Stores.{cat}
 use mathlib.Core.Path.{_≡_, refl, sym, ap, _∙_}
 use Prim.Native.Nat.{_+_, _*_, _-_, _≤_}
 use native.Mathlib.Omega.{arith}

@@ -1,6 +1,6 @@
 use Rattle.image.proofs.Turns.{object-turn}
 use Rattle.image.specs.Read.{objectIn}
-use Rattle.image_write.specs.Bytes.{cat}
+use Rattle.answer.specs.Stores.{cat}
 use mathlib.Core.Path.{_≡_, refl}
 use Prim.Native.Nat.{_-_, _≤_}
 use native.Mathlib.Omega.{arith}

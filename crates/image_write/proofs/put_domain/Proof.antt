@@ -2,7 +2,8 @@ use Rattle.image_write.proofs.Bytes.{cat-length}
 use Rattle.image_write.proofs.Bytes.{cat-turn, sets-all}
 use Rattle.image_write.proofs.Turns.{slot-length}
 use Rattle.image_write.specs.Encode.{domainBytes, slotBytes}
-use Rattle.image_write.specs.Bytes.{bytes, cat}
+use Rattle.answer.specs.Stores.{cat}
+use Rattle.image_write.specs.Bytes.{bytes}
 use mathlib.Core.Path.{_≡_, refl, sym, ap, _∙_}
 use mathlib.Core.List.{List}
 use Prim.Native.Nat.{ℕ, _+_, _*_, _-_, _≤_}

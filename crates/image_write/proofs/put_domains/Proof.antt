@@ -1,7 +1,7 @@
 use Rattle.image_write.proofs.Bytes.{part-length}
 use Rattle.image_write.proofs.Turns.{domains-put}
 use Rattle.image_write.specs.Encode.{domainsBytes, domainPart}
-use Rattle.image_write.specs.Bytes.{cat}
+use Rattle.answer.specs.Stores.{cat}
 use mathlib.Core.Path.{_≡_, refl, ap, _∙_}
 use Prim.Native.Nat.{_+_, _*_, _-_, _≤_}
 use native.Mathlib.Omega.{arith}

@@ -1,6 +1,6 @@
 use Rattle.image_write.proofs.Turns.{object-put}
 use Rattle.image_write.specs.Encode.{objectBytes}
-use Rattle.image_write.specs.Bytes.{cat}
+use Rattle.answer.specs.Stores.{cat}
 use mathlib.Core.Path.{_≡_, refl, _∙_}
 use Prim.Native.Nat.{_-_, _≤_}
 use native.Mathlib.Omega.{arith}

@@ -1,6 +1,6 @@
-use Rattle.image_write.proofs.Bytes.{behind, cat-room, cat-more}
+use Rattle.answer.specs.Stores.{behind, cat}
+use Rattle.image_write.proofs.Bytes.{cat-room, cat-more}
 use Rattle.image_write.specs.Encode.{threadBytes}
-use Rattle.image_write.specs.Bytes.{cat}
 use mathlib.Core.Path.{_≡_, refl, sym, _∙_}
 use Prim.Native.Nat.{_+_, _-_, _≤_}
 use native.Mathlib.Omega.{arith}

@@ -1,0 +1,29 @@
+use native.Mathlib.Nat.{le-refl}
+use native.Mathlib.Omega.{arith}
+use Rattle.text.specs.Laws.{number-most, put-most}
+use Rattle.lines.specs.Steps.{piece, number-piece}
+use borrow.Author.Needs.{needs}
+use Rattle.explain.proofs.put_word.Statement.{statement}
+use Rattle.explain.proofs.put_word.Tie as tie
+use Rattle.explain.proofs.put_word.Reads as reads
+use Rattle.explain.proofs.put_word.Lts as lts
+use Rattle.text.proofs.put_word.Reads as put-word-reads
+
+-- src/lib.rt:26:10
+put-word-requires : tie.Need-put-word-requires
+put-word-requires c κs = search needs
+
+-- src/lib.rt:26:5
+add-result : tie.Need-add-result
+add-result c = omega (arith, put-most _ _ _ _ _ ((c .before .before .put-word .ensures)))
+
+-- src/lib.rt:22:1
+same-length : tie.Need-same-length
+same-length c = search needs
+
+-- src/lib.rt:22:1
+returns : tie.Need-returns
+returns c = piece _ _ _ _ _ _ (le-refl _) ((c .before .before .before .before .before .before .pre)) ((c .before .before .put-word .ensures))
+
+pub put-word-spec : {M : Type 1} → statement M
+put-word-spec = tie.close (tie.spec put-word-requires add-result same-length returns)
