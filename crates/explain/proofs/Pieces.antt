@@ -30,11 +30,15 @@ below-zero n h g =
 -- ---- a part of a log
 
 pub past-end : (log : List ℕ) (k code value : ℕ) → length log < 16 * k → explained [] code value ≡ explained (partAt log k) code value
-past-end log k code value h = ap (λ (bs : List ℕ). explained bs code value) (sym (ap (take 16) (drop-of-length-le (16 * k) log (omega arith))))
+past-end log k code value h =
+    let e : drop (16 * k) log ≡ [] = drop-of-length-le log {i = 16 * k} (omega arith) in
+    rw e refl
 
 pub cut-short : (log : List ℕ) (k code value : ℕ) → 16 * k ≤ length log → length log - 16 * k < 16
-    → explained (drop (16 * k) log) code value ≡ explained (partAt log k) code value
-cut-short log k code value g h = ap (λ (bs : List ℕ). explained bs code value) (sym (take-all 16 (drop (16 * k) log) (simp length-drop (omega arith))))
+    → explained (take (length log - 16 * k) (drop (16 * k) log)) code value ≡ explained (partAt log k) code value
+cut-short log k code value g h =
+    let n : length (drop (16 * k) log) ≡ length log - 16 * k = length-drop (16 * k) log in
+    rw (take-all 16 (drop (16 * k) log) (omega (arith, n)), take-all (length log - 16 * k) (drop (16 * k) log) (omega (arith, n))) refl
 
 pub whole : (log : List ℕ) (k code value : ℕ)
     → explained (take (16 * k + 16 - 16 * k) (drop (16 * k) log)) code value ≡ explained (partAt log k) code value

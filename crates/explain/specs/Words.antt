@@ -108,12 +108,12 @@ callWords c =
     operation (c .op) ++ ascii " caller " ++ decimal (c .caller)
     ++ fieldA (c .op) (c .a) ++ fieldB (c .op) (c .b) ++ fieldC (c .op) (c .c) ++ fieldD (c .op) (c .d)
 
--- the last part of a log can be under sixteen bytes
+-- the last part of a log can be under sixteen bytes; where there is no part at all, the answer is the image's
 unfoldable pub cutOff : ℕ → List ℕ
 cutOff n = ascii "cut off after " ++ decimal n ++ ascii " bytes"
 
 unfoldable pub partWords : List ℕ → List ℕ
-partWords bs = cond (ltb (length bs) 16) (cutOff (length bs)) (callWords (callOf bs))
+partWords bs = cond (eqb (length bs) 0) (ascii "image") (cond (ltb (length bs) 16) (cutOff (length bs)) (callWords (callOf bs)))
 
 unfoldable pub answerWords : ℕ → ℕ → List ℕ
 answerWords code value = ascii ": " ++ answerName code ++ ascii " " ++ decimal value ++ ascii "\n"
@@ -121,7 +121,7 @@ answerWords code value = ascii ": " ++ answerName code ++ ascii " " ++ decimal v
 unfoldable pub explained : List ℕ → ℕ → ℕ → List ℕ
 explained bs code value = partWords bs ++ answerWords code value
 
--- the k-th part of a log with its answer, the two numbers from 2k on; past the log's end a part is empty
+-- the k-th part of a log with its answer, the two numbers from 2k on; past the log's end there is none
 abbrev pub explainedAt : List ℕ → List ℕ → ℕ → List ℕ
 explainedAt log out k = explained (partAt log k) (getD out (2 * k) 0) (getD out (2 * k + 1) 0)
 

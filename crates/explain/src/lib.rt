@@ -217,6 +217,9 @@ fn put_part(text: &mut [u8], at: usize, bytes: &[u8]) -> usize
     requires { ⌜ at + 130 ≤ length (now text) ⌝ }
     ensures { λ r. ⌜ Piece (now (text .entry)) at 130 (partWords (now (bytes .entry))) r (now (text .exit)) ⌝ }
 {
+    if bytes.len() == 0 {
+        return put_word(text, at, b"image");
+    }
     if bytes.len() < CALL {
         return put_cut_off(text, at, bytes.len() as u32);
     }

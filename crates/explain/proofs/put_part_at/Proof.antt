@@ -82,7 +82,7 @@ same-length-3 c = search needs
 
 -- src/lib.rt:246:1
 returns-3 : tie.Need-returns-3
-returns-3 c = known-as (whole _ _ _ _) ((c .before .before .put-line3 .ensures))
+returns-3 c = known-as (whole ((c .before .before .before .before .before .before .before .before .before .args .log) .now) ((c .before .before .before .before .before .before .before .before .before .args .k)) ((c .before .before .before .before .before .before .before .before .before .args .code)) ((c .before .before .before .before .before .before .before .before .before .args .value))) ((c .before .before .put-line3 .ensures))
 
 pub put-part-at-spec : {M : Type 1} → statement M
 put-part-at-spec =
