@@ -9,7 +9,7 @@ use lib.Dec.{eqb, ltb}
 use borrow.Author.Tests.{eqb-true, eq-eqb, ne-eqb}
 use Rattle.answer.specs.declared.Answer.{Answer}
 use Rattle.userspace.specs.declared.KernelObject.{KernelObject}
-use Rattle.userspace.specs.Bit.{bitOf, isSet}
+use Rattle.bits.specs.Bit.{bitOf, isSet}
 use Rattle.userspace.specs.Userspace.{THREADS, holds, granted, bitAnswer}
 use Rattle.judging.specs.declared.Call.{Call}
 use Rattle.judging.specs.Calls.{create, delete, revoke, init, uninit, recycle, publish, thread, end, inherit, assign, add, remove, Op, validate, grant, release, check, exit, sup, unknown, opOf}

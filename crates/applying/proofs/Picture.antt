@@ -16,7 +16,7 @@ use Rattle.mem_domain.specs.Domain.{slots as SLOTS, withCount, addable, hasFree
 use Rattle.mem_domain.specs.declared.Changed.{Changed as DomainChanged}
 use Rattle.mem_domain.specs.declared.MemPartition.{MemPartition}
 use Rattle.userspace.specs.declared.KernelObject.{KernelObject}
-use Rattle.userspace.specs.Bit.{setBit, set-lt, clear-lt}
+use Rattle.bits.specs.Bit.{setBit, set-lt, clear-lt}
 use Rattle.userspace.specs.Userspace.{THREADS, holds, granted, revoked, recycled, changedAt as objectChangedAt}
 use Rattle.userspace.specs.Laws.{refuses, does}
 use Rattle.tables.specs.declared.Thread.{Thread}

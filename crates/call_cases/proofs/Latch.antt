@@ -18,7 +18,8 @@ use Rattle.mem_domain.specs.Domain.{slots as SLOTS, slotAt}
 use Rattle.mem_domain.proofs.Scan.{any-at, any-none}
 use Rattle.mem_domain.proofs.Partition.{holds-at, holds-active}
 use Rattle.domain_rules.proofs.All.{isnt-true}
-use Rattle.userspace.specs.Userspace.{THREADS, public, holds, access, judged, validated}
+use Rattle.userspace_decide.specs.Decide.{judged}
+use Rattle.userspace.specs.Userspace.{THREADS, public, holds, access, validated}
 use Rattle.tables.specs.Table.{HANDLES, DOMAINS}
 use Rattle.tables.specs.State.{State, object, thread, domain}
 use Rattle.mem_check.specs.Memory.{gives, coversAt, isCovered, coveredRun, reached, memoryRule}

@@ -14,8 +14,9 @@ use Rattle.domain_rules.specs.Scan.{allTo}
 use Rattle.domain_rules.specs.Sound.{slotsSound, slotSound, slotOk, apartOf, attrOk}
 use Rattle.mem_domain.specs.Scan.{firstFrom}
 use Rattle.mem_domain.specs.Partition.{isValid, meets, overlapOf, holds as windowHolds}
-use Rattle.userspace.specs.Bit.{bitOf, isSet, setBit}
-use Rattle.userspace.specs.Userspace.{holds, typeFits, access, judged, validated}
+use Rattle.bits.specs.Bit.{bitOf, isSet, setBit}
+use Rattle.userspace_decide.specs.Decide.{judged}
+use Rattle.userspace.specs.Userspace.{holds, typeFits, access, validated}
 use Rattle.tables.specs.Tabulate.{tabulate}
 use Rattle.tables.specs.Table.{objectAt, threadAt, partitionAt, partitionsAt}
 use Rattle.tables.specs.State.{State, objectsOf, threadsOf, domainsOf, stateOf, object, thread, domain}

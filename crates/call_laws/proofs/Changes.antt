@@ -15,9 +15,10 @@ use Rattle.mem_domain.specs.Domain.{slots as SLOTS, slotAt, lowestFree, lowestW
 use Rattle.mem_domain.proofs.Domain.{add-accepts, add-stores, remove-matches, remove-frees}
 use Rattle.mem_domain.proofs.Slots.{free-below, window-below, slot-same, slot-other}
 use Rattle.userspace.specs.declared.KernelObject.{KernelObject}
-use Rattle.userspace.specs.Bit.{isSet, setBit, clearBit, is-set-same, is-set-other, is-clear-same, is-clear-other, is-zero}
+use Rattle.bits.specs.Bit.{isSet, setBit, clearBit, is-set-same, is-set-other, is-clear-same, is-clear-other, is-zero}
 use Rattle.userspace.specs.Laws.{does}
-use Rattle.userspace.specs.Userspace.{THREADS, INITIALISED, PUBLIC, holds, newObject, withWord, withFlags, granted, revoked, recycled, initiated, uninitiated, published}
+use Rattle.userspace_decide.specs.Decide.{INITIALISED, PUBLIC}
+use Rattle.userspace.specs.Userspace.{THREADS, holds, newObject, withWord, withFlags, granted, revoked, recycled, initiated, uninitiated, published}
 use Rattle.tables.specs.declared.Thread.{Thread}
 use Rattle.tables.specs.Table.{HANDLES, DOMAINS, noObject, nobody}
 use Rattle.tables.specs.State.{State, object, thread, domain}

@@ -18,10 +18,11 @@ use Rattle.mem_domain.proofs.Scan.{any-at, any-hit, any-none, any-miss}
 use Rattle.mem_domain.proofs.Domain.{add-accepts, added-ok, remove-matches, removed-ok}
 use Rattle.mem_domain.proofs.Slots.{no-clash, clash-none}
 use Rattle.userspace.specs.declared.KernelObject.{KernelObject}
-use Rattle.userspace.specs.declared.Validated.the-variants.{Refused}
-use Rattle.userspace.specs.declared.InitCheck.the-variants.{MustBeInit, MustNotBeInit}
-use Rattle.userspace.specs.Bit.{isSet}
-use Rattle.userspace.specs.Userspace.{THREADS, public, holds, typeFits, access, initialised, initJudged, judged, validated, answerOf}
+use Rattle.userspace_decide.specs.declared.Validated.the-variants.{Refused}
+use Rattle.userspace_names.specs.declared.InitCheck.the-variants.{MustBeInit, MustNotBeInit}
+use Rattle.bits.specs.Bit.{isSet}
+use Rattle.userspace_decide.specs.Decide.{initJudged, judged, answerOf}
+use Rattle.userspace.specs.Userspace.{THREADS, public, holds, typeFits, access, initialised, validated}
 use Rattle.tables.specs.Table.{HANDLES, DOMAINS}
 use Rattle.tables.specs.State.{State, object, thread, domain}
 use Rattle.mem_check.specs.Memory.{coveredRun, reached, memoryRule}

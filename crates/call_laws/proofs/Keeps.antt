@@ -15,9 +15,10 @@ use Rattle.mem_domain.proofs.Scan.{any-miss}
 use Rattle.domain_rules.specs.Sound.{SlotsKeep, attrOk}
 use Rattle.domain_rules.proofs.All.{both-true, either-true}
 use Rattle.userspace.specs.declared.KernelObject.{KernelObject}
-use Rattle.userspace.specs.Bit.{isSet, clearBit, is-clear-same, is-zero}
+use Rattle.bits.specs.Bit.{isSet, clearBit, is-clear-same, is-zero}
 use Rattle.userspace.specs.Laws.{does}
-use Rattle.userspace.specs.Userspace.{THREADS, INITIALISED, PUBLIC, holds, newObject, withWord, granted, revoked, recycled, initiated, uninitiated, published}
+use Rattle.userspace_decide.specs.Decide.{INITIALISED, PUBLIC}
+use Rattle.userspace.specs.Userspace.{THREADS, holds, newObject, withWord, granted, revoked, recycled, initiated, uninitiated, published}
 use Rattle.tables.specs.declared.Thread.{Thread}
 use Rattle.tables.specs.Table.{HANDLES, DOMAINS, noObject, nobody}
 use Rattle.tables.specs.State.{State, object, thread, domain}

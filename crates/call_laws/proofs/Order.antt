@@ -16,9 +16,10 @@ use Rattle.answer.specs.declared.Code.the-variants.{Einval, Eperm, Ebadf, Eaddr
 use Rattle.answer.specs.Answer.{numberOf}
 use Rattle.mem_domain.specs.declared.MemPartition.{MemPartition}
 use Rattle.mem_domain.specs.Domain.{addable, hasFree, hasWindow, lowestFree, lowestWindow, withCount, changedAt, added, removed}
-use Rattle.userspace.specs.declared.InitCheck.the-variants.{MustBeInit, MustNotBeInit}
-use Rattle.userspace.specs.declared.Validated.the-variants.{Refused}
-use Rattle.userspace.specs.Userspace.{THREADS, typeFits, initialised, initJudged, judged, validated, answerOf}
+use Rattle.userspace_names.specs.declared.InitCheck.the-variants.{MustBeInit, MustNotBeInit}
+use Rattle.userspace_decide.specs.declared.Validated.the-variants.{Refused}
+use Rattle.userspace_decide.specs.Decide.{initJudged, judged, answerOf}
+use Rattle.userspace.specs.Userspace.{THREADS, typeFits, initialised, validated}
 use Rattle.tables.specs.Table.{HANDLES}
 use Rattle.tables.specs.State.{State, object, thread, domain}
 use Rattle.mem_check.specs.Memory.{isCovered, coveredRun, reached, memoryRule}

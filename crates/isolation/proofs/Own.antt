@@ -9,9 +9,10 @@ use mathlib.Core.List.{List}
 use lib.ListN.{length}
 use borrow.Author.Tests.{not-false}
 use Rattle.answer.specs.declared.Answer.{Answer}
-use Rattle.userspace.specs.Bit.{isSet}
-use Rattle.userspace.specs.declared.InitCheck.{InitCheck}
-use Rattle.userspace.specs.Userspace.{THREADS, PUBLIC, typeFits, public, access, judged, validated, answerOf}
+use Rattle.bits.specs.Bit.{isSet}
+use Rattle.userspace_names.specs.declared.InitCheck.{InitCheck}
+use Rattle.userspace_decide.specs.Decide.{PUBLIC, judged, answerOf}
+use Rattle.userspace.specs.Userspace.{THREADS, typeFits, public, access, validated}
 use Rattle.tables.specs.State.{State, object, thread}
 use Rattle.rules.specs.Rules.{isSupervisor, Keeps}
 use Rattle.judging.specs.declared.Call.{Call}

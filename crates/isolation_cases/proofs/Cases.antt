@@ -9,9 +9,10 @@ use mathlib.Core.Bool.{true, false, false≢true}
 use Rattle.mem_domain.specs.Scan.{firstFrom}
 use Rattle.mem_domain.specs.Partition.{isValid, meets, overlapOf, holds as windowHolds}
 use Rattle.mem_domain.specs.Domain.{withCount, clashes, addable, lowestFree, hasFree, added, changedAt as slotChanged}
-use Rattle.userspace.specs.Bit.{bitOf, isSet, setBit, clearBit}
+use Rattle.bits.specs.Bit.{bitOf, isSet, setBit, clearBit}
 use Rattle.userspace.specs.declared.KernelObject.{KernelObject}
-use Rattle.userspace.specs.Userspace.{PUBLIC, INITIALISED, public, initialised, newObject, holds, typeFits, access, changedAt, judged, validated, granted, revoked}
+use Rattle.userspace_decide.specs.Decide.{PUBLIC, INITIALISED, judged}
+use Rattle.userspace.specs.Userspace.{public, initialised, newObject, holds, typeFits, access, changedAt, validated, granted, revoked}
 use Rattle.tables.specs.declared.Thread.{Thread}
 use Rattle.tables.specs.Tabulate.{tabulate}
 use Rattle.tables.specs.Table.{noObject, objectAt, threadAt, partitionAt, partitionsAt}

@@ -4,7 +4,7 @@ use mathlib.Core.Path.{_≡_, refl, sym}
 use mathlib.Core.Logic.{_≢_, _↔_}
 use mathlib.Core.Bool.{false}
 use Rattle.userspace.specs.declared.KernelObject.{KernelObject}
-use Rattle.userspace.specs.Bit.{isSet}
+use Rattle.bits.specs.Bit.{isSet}
 use Rattle.userspace.specs.Userspace.{initialised, public}
 use Rattle.tables.specs.State.{State, object, thread, domain}
 use Rattle.rules.specs.Rules.{Keeps}

@@ -13,10 +13,11 @@ use Rattle.mem_domain.specs.declared.MemPartition.{MemPartition}
 use Rattle.mem_domain.specs.declared.Changed.{Changed}
 use Rattle.mem_domain.specs.Scan.{anyTo}
 use Rattle.mem_domain.specs.Domain.{slots as SLOTS, withCount, added, removed}
-use Rattle.userspace.specs.declared.InitCheck.{InitCheck}
+use Rattle.userspace_names.specs.declared.InitCheck.{InitCheck}
 use Rattle.userspace.specs.declared.KernelObject.{KernelObject}
-use Rattle.userspace.specs.declared.InitCheck.the-variants.{MustBeInit, MustNotBeInit, DontCare}
-use Rattle.userspace.specs.Userspace.{THREADS, access, validated, answerOf}
+use Rattle.userspace_names.specs.declared.InitCheck.the-variants.{MustBeInit, MustNotBeInit, DontCare}
+use Rattle.userspace_decide.specs.Decide.{answerOf}
+use Rattle.userspace.specs.Userspace.{THREADS, access, validated}
 use Rattle.tables.specs.declared.Thread.{Thread}
 use Rattle.tables.specs.Table.{HANDLES, DOMAINS, noObject, nobody}
 use Rattle.tables.specs.State.{State, stateOf, object, thread, domain}

@@ -8,7 +8,8 @@ ghost use lib.Dec.{eqb, ltb, leb};
 ghost use lib.ListN.{getD, length};
 ghost use Rattle.tables.specs.Table.{noObject, nobody};
 ghost use Rattle.tables.specs.State.{objectsOf, threadsOf, domainsOf, stateOf};
-ghost use Rattle.userspace.specs.Userspace.{access, answerOf};
+ghost use Rattle.userspace_decide.specs.Decide.{answerOf};
+ghost use Rattle.userspace.specs.Userspace.{access};
 ghost use Rattle.mem_domain.specs.Scan.{anyTo};
 ghost use Rattle.rules.specs.Rules.{isLive, isSupervisor};
 ghost use Rattle.judging.specs.Calls.{wordAt, callOf, opOf, validate as validate·op, grant as grant·op, release as release·op, check as check·op, exit as exit·op, sup, create, delete, thread as thread·op};
@@ -28,9 +29,9 @@ use tables::SLOT_NUMBERS;
 use tables::THREAD_NUMBERS;
 use tables::THREADS;
 use tables::Thread;
-use userspace::InitCheck;
 use userspace::KernelObject;
-use userspace::Validated;
+use userspace_decide::Validated;
+use userspace_names::InitCheck;
 
 // A call as its bytes have it.
 pub struct Call {
