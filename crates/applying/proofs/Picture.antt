@@ -11,10 +11,10 @@ use lib.ListN.{length, getD, set, length-set}
 use lib.Dec.{eqb}
 use Rattle.answer.specs.Answer.{numberOf}
 use Rattle.answer.specs.declared.Code.the-variants.{Einval, Enospc, Enoent}
-use Rattle.mem_domain.specs.Partition.{empty}
+use Rattle.mem_partition.specs.Partition.{empty}
 use Rattle.mem_domain.specs.Domain.{slots as SLOTS, withCount, addable, hasFree, lowestFree, hasWindow, lowestWindow, refused, added, removed, changedAt}
 use Rattle.mem_domain.specs.declared.Changed.{Changed as DomainChanged}
-use Rattle.mem_domain.specs.declared.MemPartition.{MemPartition}
+use Rattle.mem_partition.specs.declared.MemPartition.{MemPartition}
 use Rattle.userspace.specs.declared.KernelObject.{KernelObject}
 use Rattle.bits.specs.Bit.{setBit, set-lt, clear-lt}
 use Rattle.userspace.specs.Userspace.{THREADS, holds, granted, revoked, recycled, changedAt as objectChangedAt}

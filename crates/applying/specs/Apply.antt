@@ -3,7 +3,7 @@ use Prim.Native.Nat.{ℕ, zero, suc}
 use mathlib.Core.Bool.{cond}
 use mathlib.Core.List.{List}
 use lib.Dec.{eqb}
-use Rattle.mem_domain.specs.declared.MemPartition.{MemPartition}
+use Rattle.mem_partition.specs.declared.MemPartition.{MemPartition}
 use Rattle.mem_domain.specs.declared.MemDomain.{MemDomain}
 use Rattle.mem_domain.specs.Domain.{slots as SLOTS, added, removed}
 use Rattle.userspace.specs.declared.KernelObject.{KernelObject}

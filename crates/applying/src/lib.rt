@@ -13,7 +13,7 @@ ghost use Rattle.judging.specs.Change.{inherited, objectChange, threadChange, d
 ghost use Rattle.applying.specs.Apply.{eachTo, enactObjects, enactThreads, enactSlots, objectAfter, threadAfter, domainAfter, objectScope};
 use judging::Call;
 use mem_domain::MemDomain;
-use mem_domain::MemPartition;
+use mem_partition::MemPartition;
 use tables::HANDLES;
 use tables::Thread;
 use userspace::KernelObject;

@@ -12,11 +12,11 @@ use lib.ListN.{length, List·getD-eq-default}
 use borrow.Author.Tests.{le-ltb, lt-leb, eqb-true, ne-eqb}
 use Rattle.answer.specs.declared.Answer.{Answer}
 use Rattle.answer.specs.declared.Code.the-variants.{Einval, Eperm}
-use Rattle.mem_domain.specs.declared.MemPartition.{MemPartition}
-use Rattle.mem_domain.specs.Partition.{endOf}
+use Rattle.mem_partition.specs.declared.MemPartition.{MemPartition}
+use Rattle.mem_partition.specs.Partition.{endOf}
 use Rattle.mem_domain.specs.Domain.{slots as SLOTS, slotAt}
 use Rattle.mem_domain.proofs.Scan.{any-at, any-none}
-use Rattle.mem_domain.proofs.Partition.{holds-at, holds-active}
+use Rattle.mem_partition.proofs.Partition.{holds-at, holds-active}
 use Rattle.domain_rules.proofs.All.{isnt-true}
 use Rattle.userspace_decide.specs.Decide.{judged}
 use Rattle.userspace.specs.Userspace.{THREADS, public, holds, access, validated}

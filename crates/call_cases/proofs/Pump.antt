@@ -13,7 +13,7 @@ use Rattle.answer.specs.declared.Code.the-variants.{Einval, Eperm}
 use Rattle.domain_rules.specs.Scan.{allTo}
 use Rattle.domain_rules.specs.Sound.{slotsSound, slotSound, slotOk, apartOf, attrOk}
 use Rattle.mem_domain.specs.Scan.{firstFrom}
-use Rattle.mem_domain.specs.Partition.{isValid, meets, overlapOf, holds as windowHolds}
+use Rattle.mem_partition.specs.Partition.{isValid, meets, overlapOf, holds as windowHolds}
 use Rattle.bits.specs.Bit.{bitOf, isSet, setBit}
 use Rattle.userspace_decide.specs.Decide.{judged}
 use Rattle.userspace.specs.Userspace.{holds, typeFits, access, validated}

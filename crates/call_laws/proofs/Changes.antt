@@ -9,8 +9,8 @@ use mathlib.Core.Bool.{Bool, true, false, cond, _||_, or-true, or-false}
 use mathlib.Core.List.{List, []}
 use lib.ListN.{length, getD, set}
 use borrow.Author.Tests.{ne-eqb, lt-ltb}
-use Rattle.mem_domain.specs.declared.MemPartition.{MemPartition}
-use Rattle.mem_domain.specs.Partition.{empty}
+use Rattle.mem_partition.specs.declared.MemPartition.{MemPartition}
+use Rattle.mem_partition.specs.Partition.{empty}
 use Rattle.mem_domain.specs.Domain.{slots as SLOTS, slotAt, lowestFree, lowestWindow, withCount, changedAt, added, removed}
 use Rattle.mem_domain.proofs.Domain.{add-accepts, add-stores, remove-matches, remove-frees}
 use Rattle.mem_domain.proofs.Slots.{free-below, window-below, slot-same, slot-other}

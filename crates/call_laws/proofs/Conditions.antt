@@ -10,9 +10,9 @@ use borrow.Author.Tests.{ltb-true, leb-true, le-leb, eqb-true, eq-eqb, not-true}
 use Rattle.answer.specs.declared.Answer.{Answer}
 use Rattle.answer.specs.declared.Code.the-variants.{Ok, Einval, Eperm, Ebadf}
 use Rattle.answer.specs.Answer.{numberOf}
-use Rattle.mem_domain.specs.declared.MemPartition.{MemPartition}
+use Rattle.mem_partition.specs.declared.MemPartition.{MemPartition}
 use Rattle.mem_domain.specs.Scan.{lowest, anyTo}
-use Rattle.mem_domain.specs.Partition.{isFree, isActive, isValid, overlapOf, isWindow, endOf}
+use Rattle.mem_partition.specs.Partition.{isFree, isActive, isValid, overlapOf, isWindow, endOf}
 use Rattle.mem_domain.specs.Domain.{slots as SLOTS, slotAt, freeAt, windowAt, clashes, addable, hasFree, hasWindow, withCount, changedAt, added, removed}
 use Rattle.mem_domain.proofs.Scan.{any-at, any-hit, any-none, any-miss}
 use Rattle.mem_domain.proofs.Domain.{add-accepts, added-ok, remove-matches, removed-ok}

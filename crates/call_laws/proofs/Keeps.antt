@@ -9,7 +9,7 @@ use mathlib.Core.List.{List, []}
 use lib.Dec.{eqb, ltb, lit<, lit≤}
 use lib.ListN.{length, getD, List·getD-eq-default}
 use borrow.Author.Tests.{ltb-true, eqb-true, eq-eqb, not-false}
-use Rattle.mem_domain.specs.declared.MemPartition.{MemPartition}
+use Rattle.mem_partition.specs.declared.MemPartition.{MemPartition}
 use Rattle.mem_domain.specs.Domain.{withCount, added, removed}
 use Rattle.mem_domain.proofs.Scan.{any-miss}
 use Rattle.domain_rules.specs.Sound.{SlotsKeep, attrOk}

@@ -7,7 +7,7 @@ use mathlib.Core.Path.{_≡_, refl, sym, ap, _∙_}
 use mathlib.Core.Logic.{_≢_}
 use mathlib.Core.Bool.{true, false, false≢true}
 use Rattle.mem_domain.specs.Scan.{firstFrom}
-use Rattle.mem_domain.specs.Partition.{isValid, meets, overlapOf, holds as windowHolds}
+use Rattle.mem_partition.specs.Partition.{isValid, meets, overlapOf, holds as windowHolds}
 use Rattle.mem_domain.specs.Domain.{withCount, clashes, addable, lowestFree, hasFree, added, changedAt as slotChanged}
 use Rattle.bits.specs.Bit.{bitOf, isSet, setBit, clearBit}
 use Rattle.userspace.specs.declared.KernelObject.{KernelObject}

@@ -21,7 +21,7 @@ use answer::EINVAL;
 use answer::EPERM;
 use answer::OK;
 use answer::VALUE;
-use mem_domain::MemPartition;
+use mem_partition::MemPartition;
 use tables::DOMAINS;
 use tables::HANDLES;
 use tables::OBJECT_NUMBERS;

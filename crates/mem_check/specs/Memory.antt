@@ -9,7 +9,7 @@ use Rattle.answer.specs.declared.Code.the-variants.{Ok, Einval, Eperm}
 use Rattle.answer.specs.Answer.{numberOf}
 use Rattle.mem_domain.specs.Scan.{anyTo}
 use Rattle.mem_domain.specs.Domain.{slots as SLOTS, slotAt, holdsAt}
-use Rattle.mem_domain.specs.declared.MemPartition.{MemPartition}
+use Rattle.mem_partition.specs.declared.MemPartition.{MemPartition}
 use Rattle.bits.specs.Bit.{isSet}
 use Rattle.tables.specs.Table.{partitionsAt}
 

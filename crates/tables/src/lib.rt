@@ -6,7 +6,7 @@ ghost use Prim.Native.Nat.{_<_, _^_};
 ghost use lib.ListN.{getD, set};
 ghost use Rattle.tables.specs.Table.{objectAt, putObject, threadAt, putThread, partitionAt, putPartition, slotAt, putSlot, partitionsAt, domainAt, putDomain};
 use mem_domain::MemDomain;
-use mem_domain::MemPartition;
+use mem_partition::MemPartition;
 use userspace::KernelObject;
 
 // The limits: threads and slots are the leaves' own, handles and domains are named here.

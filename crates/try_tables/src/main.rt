@@ -2,7 +2,7 @@
 // little-endian words to a step: its number, a place, and two words of a value. tests/tables.py makes it, and works out `stdout` by a model.
 ghost use Prim.Native.Nat.{_+_, _<_, _≤_};
 use libc::STDOUT_FILENO;
-use mem_domain::MemPartition;
+use mem_partition::MemPartition;
 use tables::Thread;
 use userspace::KernelObject;
 

@@ -1,7 +1,7 @@
 use borrow.Author.Tests.{lt-ltb, le-ltb}
-use Rattle.mem_domain.specs.Partition.{isValid}
-use Rattle.mem_domain.proofs.MemPartition.is_valid.Statement.{statement}
-use Rattle.mem_domain.proofs.MemPartition.is_valid.Tie as tie
+use Rattle.mem_partition.specs.Partition.{isValid}
+use Rattle.mem_partition.proofs.MemPartition.is_valid.Statement.{statement}
+use Rattle.mem_partition.proofs.MemPartition.is_valid.Tie as tie
 
 end-u64-requires : tie.Need-end-u64-requires
 end-u64-requires c κs = tt

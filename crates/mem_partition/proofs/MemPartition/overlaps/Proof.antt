@@ -2,10 +2,10 @@ use mathlib.Core.Path.{ap}
 use lib.Dec.{ltb}
 use borrow.Author.Tests.{lt-ltb, le-ltb}
 use borrow.Author.Needs.{needs}
-use Rattle.mem_domain.specs.Partition.{meets, overlapOf}
-use Rattle.mem_domain.proofs.Tests.{and-past}
-use Rattle.mem_domain.proofs.MemPartition.overlaps.Statement.{statement}
-use Rattle.mem_domain.proofs.MemPartition.overlaps.Tie as tie
+use Rattle.mem_partition.specs.Partition.{meets, overlapOf}
+use Rattle.mem_partition.proofs.Tests.{and-past}
+use Rattle.mem_partition.proofs.MemPartition.overlaps.Statement.{statement}
+use Rattle.mem_partition.proofs.MemPartition.overlaps.Tie as tie
 
 end-u64-requires : tie.Need-end-u64-requires
 end-u64-requires c κs = tt

@@ -6,9 +6,9 @@ use mathlib.Core.Bool.{Bool, true, false, not, _&&_, and-comm, and-false, true�
 use mathlib.Core.Logic.{_⊎_, inl, inr}
 use lib.Dec.{ltb, leb}
 use borrow.Author.Tests.{lt-ltb, le-leb, ne-eqb, ltb-true, ltb-false, leb-true, eqb-false, not-true}
-use Rattle.mem_domain.specs.Partition.{endOf, isValid, overlapOf, isFree, isActive, meets, holds}
-use Rattle.mem_domain.specs.declared.MemPartition.{MemPartition}
-use Rattle.mem_domain.proofs.Tests.{and-left, and-right}
+use Rattle.mem_partition.specs.Partition.{endOf, isValid, overlapOf, isFree, isActive, meets, holds}
+use Rattle.mem_partition.specs.declared.MemPartition.{MemPartition}
+use Rattle.mem_partition.proofs.Tests.{and-left, and-right}
 
 -- a valid window has a size, and an end that fits 32 bits
 pub valid-size : (p : MemPartition) → isValid p ≡ true → 0 < p .size

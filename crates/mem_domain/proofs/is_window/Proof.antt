@@ -1,7 +1,7 @@
 use borrow.Author.Tests.{eq-eqb, ne-eqb}
-use Rattle.mem_domain.specs.Partition.{isWindow}
-use Rattle.mem_domain.proofs.MemPartition.is_window.Statement.{statement}
-use Rattle.mem_domain.proofs.MemPartition.is_window.Tie as tie
+use Rattle.mem_partition.specs.Partition.{isWindow}
+use Rattle.mem_domain.proofs.is_window.Statement.{statement}
+use Rattle.mem_domain.proofs.is_window.Tie as tie
 
 returns : tie.Need-returns
 unfolding isWindow

@@ -1,7 +1,7 @@
 use native.Mathlib.Omega.{arith}
 use mathlib.Core.Path.{refl}
-use Rattle.mem_domain.proofs.MemPartition.end_u64.Statement.{statement}
-use Rattle.mem_domain.proofs.MemPartition.end_u64.Tie as tie
+use Rattle.mem_partition.proofs.MemPartition.end_u64.Statement.{statement}
+use Rattle.mem_partition.proofs.MemPartition.end_u64.Tie as tie
 
 cast-sum : tie.Need-cast-sum
 cast-sum c = omega arith

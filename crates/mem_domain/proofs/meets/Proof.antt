@@ -1,7 +1,7 @@
 use borrow.Author.Tests.{lt-ltb, le-ltb, eq-eqb, ne-eqb}
-use Rattle.mem_domain.specs.Partition.{meets}
-use Rattle.mem_domain.proofs.MemPartition.meets.Statement.{statement}
-use Rattle.mem_domain.proofs.MemPartition.meets.Tie as tie
+use Rattle.mem_partition.specs.Partition.{meets}
+use Rattle.mem_domain.proofs.meets.Statement.{statement}
+use Rattle.mem_domain.proofs.meets.Tie as tie
 
 returns : tie.Need-returns
 unfolding meets

@@ -1,7 +1,7 @@
 use borrow.Author.Tests.{lt-leb, le-leb, eq-eqb, ne-eqb}
-use Rattle.mem_domain.specs.Partition.{holds}
-use Rattle.mem_domain.proofs.MemPartition.covers.Statement.{statement}
-use Rattle.mem_domain.proofs.MemPartition.covers.Tie as tie
+use Rattle.mem_partition.specs.Partition.{holds}
+use Rattle.mem_domain.proofs.covers.Statement.{statement}
+use Rattle.mem_domain.proofs.covers.Tie as tie
 
 returns : tie.Need-returns
 unfolding holds
