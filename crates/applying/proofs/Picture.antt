@@ -25,8 +25,8 @@ use Rattle.tables.specs.Tabulate.{tabulate, length-tabulate, getD-tabulate, tab
 use Rattle.tables.specs.Table.{HANDLES, DOMAINS, noObject, nobody, objectAt, putObject, objectRow, threadAt, putThread, partitionsAt}
 use Rattle.tables.specs.Laws.{Bytes, object-length, object-same, object-other, thread-length, thread-same, thread-other, put-length, domain-same, domain-other}
 use Rattle.tables.specs.State.{objectsOf, threadsOf, domainsOf, stateOf, Heads, Fit}
-use Rattle.judging.specs.declared.Call.{Call}
-use Rattle.judging.specs.Calls.{create, delete, revoke, init, uninit, recycle, publish, thread, end, inherit, assign, add, remove, Op, validate, grant, release, check, exit, sup, unknown}
+use Rattle.decoding.specs.declared.Call.{Call}
+use Rattle.decoding.specs.Calls.{create, delete, revoke, init, uninit, recycle, publish, thread, end, inherit, assign, add, remove, Op, validate, grant, release, check, exit, sup, unknown}
 use Rattle.judging.specs.Judge.{partitionOf}
 use Rattle.judging.specs.Change.{Change, none, one, each, enact, inherited, objectChange, threadChange, domainChange, change}
 use Rattle.applying.specs.Apply.{eachTo, enactIn, enactObjects, enactThreads, enactSlots, putSlots}

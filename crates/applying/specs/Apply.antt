@@ -10,8 +10,8 @@ use Rattle.userspace.specs.declared.KernelObject.{KernelObject}
 use Rattle.userspace.specs.Userspace.{THREADS}
 use Rattle.tables.specs.declared.Thread.{Thread}
 use Rattle.tables.specs.Table.{HANDLES, DOMAINS, objectAt, putObject, threadAt, putThread, partitionsAt, putTo}
-use Rattle.judging.specs.declared.Call.{Call}
-use Rattle.judging.specs.Calls.{opOf}
+use Rattle.decoding.specs.declared.Call.{Call}
+use Rattle.decoding.specs.Calls.{opOf}
 use Rattle.judging.specs.Judge.{partitionOf}
 use Rattle.judging.specs.Change.{Change, none, one, each, objectChange, threadChange}
 

@@ -24,8 +24,8 @@ use Rattle.tables.specs.Table.{HANDLES, DOMAINS}
 use Rattle.tables.specs.State.{State, object, thread, domain}
 use Rattle.mem_check.specs.Memory.{gives, coversAt, isCovered, coveredRun, reached, memoryRule}
 use Rattle.rules.specs.Rules.{Keeps}
-use Rattle.judging.specs.declared.Call.{Call}
-use Rattle.judging.specs.Calls.{Op, validate, check, opOf}
+use Rattle.decoding.specs.declared.Call.{Call}
+use Rattle.decoding.specs.Calls.{Op, validate, check, opOf}
 use Rattle.judging.specs.Judge.{done, refused, live, supervisor, typeOf, mayUse, wellFormed, useOf, withHandle, rule, isUnknown, isPrivileged, judgeOp, judge}
 use Rattle.call_laws.proofs.Conditions.{Mode, FitsType, Fields, fields-iff, fits-iff}
 use Rattle.call_laws.proofs.Cascade.{stop, pass}

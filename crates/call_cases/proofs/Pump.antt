@@ -23,7 +23,7 @@ use Rattle.tables.specs.State.{State, objectsOf, threadsOf, domainsOf, stateOf,
 use Rattle.rules.specs.Rules.{Keeps, Sound, keepsTest, liveTo, objectOk, threadOk, threadSound, domainsSound}
 use Rattle.rules.proofs.Rules.{test-sound}
 use Rattle.mem_check.specs.Memory.{gives, isCovered, coveredRun, reached, memoryRule}
-use Rattle.judging.specs.Calls.{opOf}
+use Rattle.decoding.specs.Calls.{opOf}
 use Rattle.judging.specs.Judge.{done, refused, _⇒_⨾_, typeOf, wellFormed, useOf, withHandle, rule, isUnknown, isPrivileged, judgeOp, judge}
 use Rattle.call_laws.proofs.Conditions.{Mode}
 use Rattle.call_cases.proofs.Latch.{asks, asksFor, always-refusing-fails, Shut, shut-refused, shut-no-mode}

@@ -23,8 +23,8 @@ use Rattle.tables.specs.declared.Thread.{Thread}
 use Rattle.tables.specs.Table.{HANDLES, DOMAINS, noObject, nobody}
 use Rattle.tables.specs.State.{State, object, thread, domain}
 use Rattle.rules.specs.Rules.{Keeps}
-use Rattle.judging.specs.declared.Call.{Call}
-use Rattle.judging.specs.Calls.{create, delete, revoke, init, uninit, recycle, publish, thread as newThread, end, inherit, assign, add, remove, Op, validate, grant, release, check, exit, sup, opOf}
+use Rattle.decoding.specs.declared.Call.{Call}
+use Rattle.decoding.specs.Calls.{create, delete, revoke, init, uninit, recycle, publish, thread as newThread, end, inherit, assign, add, remove, Op, validate, grant, release, check, exit, sup, opOf}
 use Rattle.judging.specs.Judge.{partitionOf, rule, supRule, judge}
 use Rattle.judging.specs.Change.{none, one, each, enact, inherited, objectChange, born, moved, threadChange, domainChange, change, after}
 use Rattle.call_laws.proofs.Enact.{one-same, one-other, each-at}

@@ -26,8 +26,8 @@ use Rattle.userspace.specs.Userspace.{THREADS, public, holds, typeFits, access,
 use Rattle.tables.specs.Table.{HANDLES, DOMAINS}
 use Rattle.tables.specs.State.{State, object, thread, domain}
 use Rattle.mem_check.specs.Memory.{coveredRun, reached, memoryRule}
-use Rattle.judging.specs.declared.Call.{Call}
-use Rattle.judging.specs.Calls.{create, delete, revoke, init, uninit, recycle, publish, thread as newThread, end, inherit, assign, add, remove, Op, validate, grant, release, check, exit, sup, unknown, opOf}
+use Rattle.decoding.specs.declared.Call.{Call}
+use Rattle.decoding.specs.Calls.{create, delete, revoke, init, uninit, recycle, publish, thread as newThread, end, inherit, assign, add, remove, Op, validate, grant, release, check, exit, sup, unknown, opOf}
 use Rattle.judging.specs.Judge.{done, live, supervisor, typeOf, mayUse, servesAt, serves, isMode, modeOf, isAttr, wellFormed, partitionOf, Use, noHandle, taken, free, useOf, withHandle, rule, supRule, isUnknown, isPrivileged, judgeOp, judge}
 use Rattle.call_laws.proofs.Passed.{TakenAt, FreeAt, in-range}
 use Rattle.call_laws.proofs.Bytes.{EveryByte, run-all, all-run}

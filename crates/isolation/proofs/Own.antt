@@ -15,8 +15,8 @@ use Rattle.userspace_decide.specs.Decide.{PUBLIC, judged, answerOf}
 use Rattle.userspace.specs.Userspace.{THREADS, typeFits, public, access, validated}
 use Rattle.tables.specs.State.{State, object, thread}
 use Rattle.rules.specs.Rules.{isSupervisor, Keeps}
-use Rattle.judging.specs.declared.Call.{Call}
-use Rattle.judging.specs.Calls.{Op, validate, grant, release, check, exit, sup, unknown, opOf, callOf}
+use Rattle.decoding.specs.declared.Call.{Call}
+use Rattle.decoding.specs.Calls.{Op, validate, grant, release, check, exit, sup, unknown, opOf, callOf}
 use Rattle.judging.specs.Judge.{live, supervisor, typeOf, mayUse, modeOf, Use, noHandle, taken, free, useOf, withHandle, rule, isPrivileged, judgeOp, judge, heard}
 use Rattle.judging.specs.Change.{after, left}
 use Rattle.call_laws.proofs.Cascade.{past}

@@ -16,8 +16,8 @@ use Rattle.tables.specs.Table.{nobody}
 use Rattle.tables.specs.State.{State, object, thread, domain}
 use Rattle.rules.specs.Rules.{isLive, isSupervisor, Keeps}
 use Rattle.mem_check.specs.Memory.{isCovered}
-use Rattle.judging.specs.declared.Call.{Call}
-use Rattle.judging.specs.Calls.{check, exit, opOf}
+use Rattle.decoding.specs.declared.Call.{Call}
+use Rattle.decoding.specs.Calls.{check, exit, opOf}
 use Rattle.judging.specs.Judge.{live, supervisor, typeOf, mayUse, judge}
 use Rattle.judging.specs.Change.{after}
 use Rattle.call_laws.proofs.Keeps.{keeps-after}

@@ -19,8 +19,8 @@ use Rattle.tables.specs.Table.{noObject, objectAt, threadAt, partitionAt, parti
 use Rattle.tables.specs.State.{State, objectsOf, threadsOf, domainsOf, object, thread, domain}
 use Rattle.rules.specs.Rules.{isLive, isSupervisor, Keeps}
 use Rattle.mem_check.specs.Memory.{gives, isCovered, coveredRun, reached, memoryRule}
-use Rattle.judging.specs.declared.Call.{Call}
-use Rattle.judging.specs.Calls.{create, uninit, publish, thread as newThread, end, add, grant, opOf, sup}
+use Rattle.decoding.specs.declared.Call.{Call}
+use Rattle.decoding.specs.Calls.{create, uninit, publish, thread as newThread, end, add, grant, opOf, sup}
 use Rattle.judging.specs.Judge.{_⇒_⨾_, live, supervisor, wellFormed, useOf, withHandle, rule, supRule, serves, isUnknown, isPrivileged, judgeOp, judge}
 use Rattle.judging.specs.Change.{enact, objectChange, born, threadChange, domainChange, change, after}
 use Rattle.call_laws.proofs.Numbers.{opNumber, number-names}

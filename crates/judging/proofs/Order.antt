@@ -19,8 +19,8 @@ use Rattle.userspace.specs.declared.KernelObject.{KernelObject}
 use Rattle.tables.specs.Table.{HANDLES, noObject}
 use Rattle.tables.specs.State.{State, object, thread}
 use Rattle.rules.specs.Rules.{isLive, isSupervisor}
-use Rattle.judging.specs.declared.Call.{Call}
-use Rattle.judging.specs.Calls.{Op, opOf}
+use Rattle.decoding.specs.declared.Call.{Call}
+use Rattle.decoding.specs.Calls.{Op, opOf}
 use Rattle.judging.specs.Judge.{refused, _⇒_⨾_, live, supervisor, wellFormed, Use, noHandle, taken, useOf, withHandle, rule, isUnknown, isPrivileged, judgeOp, judge, takenIn, plain}
 
 -- a callee's answer by its contract, and the branch that says what it is not

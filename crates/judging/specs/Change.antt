@@ -12,8 +12,8 @@ use Rattle.userspace.specs.Userspace.{holds, newObject, granted, revoked, recyc
 use Rattle.tables.specs.declared.Thread.{Thread}
 use Rattle.tables.specs.Table.{noObject, nobody}
 use Rattle.tables.specs.State.{State}
-use Rattle.judging.specs.declared.Call.{Call}
-use Rattle.judging.specs.Calls.{Sup, create, delete, revoke, init, uninit, recycle, publish, thread, end, inherit, assign, add, remove, Op, validate, grant, release, check, exit, sup, unknown, opOf, callOf}
+use Rattle.decoding.specs.declared.Call.{Call}
+use Rattle.decoding.specs.Calls.{Sup, create, delete, revoke, init, uninit, recycle, publish, thread, end, inherit, assign, add, remove, Op, validate, grant, release, check, exit, sup, unknown, opOf, callOf}
 use Rattle.judging.specs.Judge.{partitionOf, judge, heard}
 
 -- what happens to a table: nothing, record i goes through f, or each record does

@@ -4,7 +4,7 @@ use mathlib.Core.Bool.{cond}
 use mathlib.Core.List.{List}
 use lib.Dec.{eqb}
 use lib.ListN.{getD}
-use Rattle.judging.specs.declared.Call.{Call}
+use Rattle.decoding.specs.declared.Call.{Call}
 
 -- ---- bytes, little-endian
 

@@ -1,10 +1,10 @@
 use borrow.Author.Needs.{needs}
-use Rattle.judging.proofs.decode.Statement.{statement}
-use Rattle.judging.proofs.decode.Tie as tie
-use Rattle.judging.proofs.decode.Reads as reads
-use Rattle.judging.proofs.decode.Lts as lts
-use Rattle.judging.proofs.byte_at.Reads as byte-at-reads
-use Rattle.judging.proofs.word_at.Reads as word-at-reads
+use Rattle.decoding.proofs.decode.Statement.{statement}
+use Rattle.decoding.proofs.decode.Tie as tie
+use Rattle.decoding.proofs.decode.Reads as reads
+use Rattle.decoding.proofs.decode.Lts as lts
+use Rattle.decoding.proofs.byte_at.Reads as byte-at-reads
+use Rattle.decoding.proofs.word_at.Reads as word-at-reads
 
 -- src/lib.rt:69:9
 byte-at-requires : tie.Need-byte-at-requires

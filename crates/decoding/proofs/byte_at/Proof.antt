@@ -2,11 +2,11 @@ use mathlib.Core.Path.{sym}
 use native.Mathlib.Omega.{arith}
 use lib.ListN.{List·getD-eq-default}
 use borrow.Author.Needs.{needs}
-use Rattle.judging.proofs.byte_at.Statement.{statement}
-use Rattle.judging.proofs.byte_at.Tie as tie
-use Rattle.judging.proofs.byte_at.Reads as reads
-use Rattle.judging.proofs.byte_at.Lts as lts
-use Rattle.judging.proofs.wide.Reads as wide-reads
+use Rattle.decoding.proofs.byte_at.Statement.{statement}
+use Rattle.decoding.proofs.byte_at.Tie as tie
+use Rattle.decoding.proofs.byte_at.Reads as reads
+use Rattle.decoding.proofs.byte_at.Lts as lts
+use Rattle.decoding.proofs.wide.Reads as wide-reads
 
 -- src/lib.rt:54:31
 shared-slice-read-wide : tie.Need-shared-slice-read-wide
