@@ -31,7 +31,7 @@ fn step(objects: &mut [u64], threads: &mut [u32], slots: &mut [u32], c: Call) ->
     if r.code != answer::OK {
         return r;
     }
-    applying::change_objects(objects, c);
+    applying_objects::change_objects(objects, c);
     if c.op < 4 {
         return r;
     }

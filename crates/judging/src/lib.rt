@@ -44,7 +44,7 @@ fn object_in(objects: &[u64], h: u32) -> KernelObject
     requires { ⌜ length (now objects) ≡ 512 ⌝ }
     ensures { λ r. ⌜ r ≡ getD (objectsOf (now (objects .entry))) h noObject ⌝ }
 {
-    tables::load_object(objects, h)
+    object_table::load_object(objects, h)
 }
 
 fn thread_in(threads: &[u32], t: u32) -> Thread

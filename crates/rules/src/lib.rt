@@ -65,7 +65,7 @@ fn thread_ok(objects: &[u64], r: Thread) -> bool
     }
     if home_ok(r.domain) {
         if r.handle < HANDLES {
-            let o = tables::load_object(objects, r.handle);
+            let o = object_table::load_object(objects, r.handle);
             return o.obj_type == 1;
         }
     }
