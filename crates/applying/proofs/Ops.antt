@@ -9,10 +9,10 @@ use lib.Dec.{eqb, ltb}
 use borrow.Author.Tests.{eqb-true, eq-eqb, ne-eqb}
 use Rattle.answer.specs.declared.Answer.{Answer}
 use Rattle.userspace.specs.declared.KernelObject.{KernelObject}
-use Rattle.userspace.specs.Bit.{bitOf, isSet}
+use Rattle.bits.specs.Bit.{bitOf, isSet}
 use Rattle.userspace.specs.Userspace.{THREADS, holds, granted, bitAnswer}
-use Rattle.judging.specs.declared.Call.{Call}
-use Rattle.judging.specs.Calls.{create, delete, revoke, init, uninit, recycle, publish, thread, end, inherit, assign, add, remove, Op, validate, grant, release, check, exit, sup, unknown, opOf}
+use Rattle.decoding.specs.declared.Call.{Call}
+use Rattle.decoding.specs.Calls.{create, delete, revoke, init, uninit, recycle, publish, thread, end, inherit, assign, add, remove, Op, validate, grant, release, check, exit, sup, unknown, opOf}
 use Rattle.judging.specs.Change.{Change, none, one, each, objectChange, threadChange, domainChange, inherited}
 use Rattle.applying.specs.Apply.{eachTo, enactIn, rewritten, scopeOf}
 

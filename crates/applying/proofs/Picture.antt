@@ -11,12 +11,12 @@ use lib.ListN.{length, getD, set, length-set}
 use lib.Dec.{eqb}
 use Rattle.answer.specs.Answer.{numberOf}
 use Rattle.answer.specs.declared.Code.the-variants.{Einval, Enospc, Enoent}
-use Rattle.mem_domain.specs.Partition.{empty}
+use Rattle.mem_partition.specs.Partition.{empty}
 use Rattle.mem_domain.specs.Domain.{slots as SLOTS, withCount, addable, hasFree, lowestFree, hasWindow, lowestWindow, refused, added, removed, changedAt}
 use Rattle.mem_domain.specs.declared.Changed.{Changed as DomainChanged}
-use Rattle.mem_domain.specs.declared.MemPartition.{MemPartition}
+use Rattle.mem_partition.specs.declared.MemPartition.{MemPartition}
 use Rattle.userspace.specs.declared.KernelObject.{KernelObject}
-use Rattle.userspace.specs.Bit.{setBit, set-lt, clear-lt}
+use Rattle.bits.specs.Bit.{setBit, set-lt, clear-lt}
 use Rattle.userspace.specs.Userspace.{THREADS, holds, granted, revoked, recycled, changedAt as objectChangedAt}
 use Rattle.userspace.specs.Laws.{refuses, does}
 use Rattle.tables.specs.declared.Thread.{Thread}
@@ -25,8 +25,8 @@ use Rattle.tables.specs.Tabulate.{tabulate, length-tabulate, getD-tabulate, tab
 use Rattle.tables.specs.Table.{HANDLES, DOMAINS, noObject, nobody, objectAt, putObject, objectRow, threadAt, putThread, partitionsAt}
 use Rattle.tables.specs.Laws.{Bytes, object-length, object-same, object-other, thread-length, thread-same, thread-other, put-length, domain-same, domain-other}
 use Rattle.tables.specs.State.{objectsOf, threadsOf, domainsOf, stateOf, Heads, Fit}
-use Rattle.judging.specs.declared.Call.{Call}
-use Rattle.judging.specs.Calls.{create, delete, revoke, init, uninit, recycle, publish, thread, end, inherit, assign, add, remove, Op, validate, grant, release, check, exit, sup, unknown}
+use Rattle.decoding.specs.declared.Call.{Call}
+use Rattle.decoding.specs.Calls.{create, delete, revoke, init, uninit, recycle, publish, thread, end, inherit, assign, add, remove, Op, validate, grant, release, check, exit, sup, unknown}
 use Rattle.judging.specs.Judge.{partitionOf}
 use Rattle.judging.specs.Change.{Change, none, one, each, enact, inherited, objectChange, threadChange, domainChange, change}
 use Rattle.applying.specs.Apply.{eachTo, enactIn, enactObjects, enactThreads, enactSlots, putSlots}

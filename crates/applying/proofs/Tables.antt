@@ -4,8 +4,8 @@ use mathlib.Core.Path.{_≡_}
 use mathlib.Core.List.{List}
 use Rattle.userspace.specs.Userspace.{THREADS, granted}
 use Rattle.tables.specs.Table.{HANDLES, objectAt, putObject, threadAt, putThread, domainAt, putDomain}
-use Rattle.judging.specs.declared.Call.{Call}
-use Rattle.judging.specs.Calls.{opOf}
+use Rattle.decoding.specs.declared.Call.{Call}
+use Rattle.decoding.specs.Calls.{opOf}
 use Rattle.judging.specs.Change.{none, objectChange, threadChange, domainChange}
 use Rattle.applying.specs.Apply.{eachTo, enactIn, enactObjects, enactThreads, enactSlots, objectAfter, threadAfter, domainAfter, objectScope}
 use Rattle.applying.proofs.Ops.{Reaches, enact-one, enact-each, enact-none, object-named}

@@ -3,15 +3,15 @@ use Prim.Native.Nat.{ℕ, zero, suc}
 use mathlib.Core.Bool.{cond}
 use mathlib.Core.List.{List}
 use lib.Dec.{eqb}
-use Rattle.mem_domain.specs.declared.MemPartition.{MemPartition}
+use Rattle.mem_partition.specs.declared.MemPartition.{MemPartition}
 use Rattle.mem_domain.specs.declared.MemDomain.{MemDomain}
 use Rattle.mem_domain.specs.Domain.{slots as SLOTS, added, removed}
 use Rattle.userspace.specs.declared.KernelObject.{KernelObject}
 use Rattle.userspace.specs.Userspace.{THREADS}
 use Rattle.tables.specs.declared.Thread.{Thread}
 use Rattle.tables.specs.Table.{HANDLES, DOMAINS, objectAt, putObject, threadAt, putThread, partitionsAt, putTo}
-use Rattle.judging.specs.declared.Call.{Call}
-use Rattle.judging.specs.Calls.{opOf}
+use Rattle.decoding.specs.declared.Call.{Call}
+use Rattle.decoding.specs.Calls.{opOf}
 use Rattle.judging.specs.Judge.{partitionOf}
 use Rattle.judging.specs.Change.{Change, none, one, each, objectChange, threadChange}
 

@@ -12,19 +12,20 @@ use lib.ListN.{length, List·getD-eq-default}
 use borrow.Author.Tests.{le-ltb, lt-leb, eqb-true, ne-eqb}
 use Rattle.answer.specs.declared.Answer.{Answer}
 use Rattle.answer.specs.declared.Code.the-variants.{Einval, Eperm}
-use Rattle.mem_domain.specs.declared.MemPartition.{MemPartition}
-use Rattle.mem_domain.specs.Partition.{endOf}
+use Rattle.mem_partition.specs.declared.MemPartition.{MemPartition}
+use Rattle.mem_partition.specs.Partition.{endOf}
 use Rattle.mem_domain.specs.Domain.{slots as SLOTS, slotAt}
 use Rattle.mem_domain.proofs.Scan.{any-at, any-none}
-use Rattle.mem_domain.proofs.Partition.{holds-at, holds-active}
+use Rattle.mem_partition.proofs.Partition.{holds-at, holds-active}
 use Rattle.domain_rules.proofs.All.{isnt-true}
-use Rattle.userspace.specs.Userspace.{THREADS, public, holds, access, judged, validated}
+use Rattle.userspace_decide.specs.Decide.{judged}
+use Rattle.userspace.specs.Userspace.{THREADS, public, holds, access, validated}
 use Rattle.tables.specs.Table.{HANDLES, DOMAINS}
 use Rattle.tables.specs.State.{State, object, thread, domain}
 use Rattle.mem_check.specs.Memory.{gives, coversAt, isCovered, coveredRun, reached, memoryRule}
 use Rattle.rules.specs.Rules.{Keeps}
-use Rattle.judging.specs.declared.Call.{Call}
-use Rattle.judging.specs.Calls.{Op, validate, check, opOf}
+use Rattle.decoding.specs.declared.Call.{Call}
+use Rattle.decoding.specs.Calls.{Op, validate, check, opOf}
 use Rattle.judging.specs.Judge.{done, refused, live, supervisor, typeOf, mayUse, wellFormed, useOf, withHandle, rule, isUnknown, isPrivileged, judgeOp, judge}
 use Rattle.call_laws.proofs.Conditions.{Mode, FitsType, Fields, fields-iff, fits-iff}
 use Rattle.call_laws.proofs.Cascade.{stop, pass}

@@ -13,16 +13,17 @@ use Rattle.answer.specs.declared.Code.the-variants.{Einval, Eperm}
 use Rattle.domain_rules.specs.Scan.{allTo}
 use Rattle.domain_rules.specs.Sound.{slotsSound, slotSound, slotOk, apartOf, attrOk}
 use Rattle.mem_domain.specs.Scan.{firstFrom}
-use Rattle.mem_domain.specs.Partition.{isValid, meets, overlapOf, holds as windowHolds}
-use Rattle.userspace.specs.Bit.{bitOf, isSet, setBit}
-use Rattle.userspace.specs.Userspace.{holds, typeFits, access, judged, validated}
+use Rattle.mem_partition.specs.Partition.{isValid, meets, overlapOf, holds as windowHolds}
+use Rattle.bits.specs.Bit.{bitOf, isSet, setBit}
+use Rattle.userspace_decide.specs.Decide.{judged}
+use Rattle.userspace.specs.Userspace.{holds, typeFits, access, validated}
 use Rattle.tables.specs.Tabulate.{tabulate}
 use Rattle.tables.specs.Table.{objectAt, threadAt, partitionAt, partitionsAt}
 use Rattle.tables.specs.State.{State, objectsOf, threadsOf, domainsOf, stateOf, object, thread, domain}
 use Rattle.rules.specs.Rules.{Keeps, Sound, keepsTest, liveTo, objectOk, threadOk, threadSound, domainsSound}
 use Rattle.rules.proofs.Rules.{test-sound}
 use Rattle.mem_check.specs.Memory.{gives, isCovered, coveredRun, reached, memoryRule}
-use Rattle.judging.specs.Calls.{opOf}
+use Rattle.decoding.specs.Calls.{opOf}
 use Rattle.judging.specs.Judge.{done, refused, _⇒_⨾_, typeOf, wellFormed, useOf, withHandle, rule, isUnknown, isPrivileged, judgeOp, judge}
 use Rattle.call_laws.proofs.Conditions.{Mode}
 use Rattle.call_cases.proofs.Latch.{asks, asksFor, always-refusing-fails, Shut, shut-refused, shut-no-mode}

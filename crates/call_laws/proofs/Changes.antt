@@ -9,21 +9,22 @@ use mathlib.Core.Bool.{Bool, true, false, cond, _||_, or-true, or-false}
 use mathlib.Core.List.{List, []}
 use lib.ListN.{length, getD, set}
 use borrow.Author.Tests.{ne-eqb, lt-ltb}
-use Rattle.mem_domain.specs.declared.MemPartition.{MemPartition}
-use Rattle.mem_domain.specs.Partition.{empty}
+use Rattle.mem_partition.specs.declared.MemPartition.{MemPartition}
+use Rattle.mem_partition.specs.Partition.{empty}
 use Rattle.mem_domain.specs.Domain.{slots as SLOTS, slotAt, lowestFree, lowestWindow, withCount, changedAt, added, removed}
 use Rattle.mem_domain.proofs.Domain.{add-accepts, add-stores, remove-matches, remove-frees}
 use Rattle.mem_domain.proofs.Slots.{free-below, window-below, slot-same, slot-other}
 use Rattle.userspace.specs.declared.KernelObject.{KernelObject}
-use Rattle.userspace.specs.Bit.{isSet, setBit, clearBit, is-set-same, is-set-other, is-clear-same, is-clear-other, is-zero}
+use Rattle.bits.specs.Bit.{isSet, setBit, clearBit, is-set-same, is-set-other, is-clear-same, is-clear-other, is-zero}
 use Rattle.userspace.specs.Laws.{does}
-use Rattle.userspace.specs.Userspace.{THREADS, INITIALISED, PUBLIC, holds, newObject, withWord, withFlags, granted, revoked, recycled, initiated, uninitiated, published}
+use Rattle.userspace_decide.specs.Decide.{INITIALISED, PUBLIC}
+use Rattle.userspace.specs.Userspace.{THREADS, holds, newObject, withWord, withFlags, granted, revoked, recycled, initiated, uninitiated, published}
 use Rattle.tables.specs.declared.Thread.{Thread}
 use Rattle.tables.specs.Table.{HANDLES, DOMAINS, noObject, nobody}
 use Rattle.tables.specs.State.{State, object, thread, domain}
 use Rattle.rules.specs.Rules.{Keeps}
-use Rattle.judging.specs.declared.Call.{Call}
-use Rattle.judging.specs.Calls.{create, delete, revoke, init, uninit, recycle, publish, thread as newThread, end, inherit, assign, add, remove, Op, validate, grant, release, check, exit, sup, opOf}
+use Rattle.decoding.specs.declared.Call.{Call}
+use Rattle.decoding.specs.Calls.{create, delete, revoke, init, uninit, recycle, publish, thread as newThread, end, inherit, assign, add, remove, Op, validate, grant, release, check, exit, sup, opOf}
 use Rattle.judging.specs.Judge.{partitionOf, rule, supRule, judge}
 use Rattle.judging.specs.Change.{none, one, each, enact, inherited, objectChange, born, moved, threadChange, domainChange, change, after}
 use Rattle.call_laws.proofs.Enact.{one-same, one-other, each-at}

@@ -10,23 +10,24 @@ use borrow.Author.Tests.{ltb-true, leb-true, le-leb, eqb-true, eq-eqb, not-true}
 use Rattle.answer.specs.declared.Answer.{Answer}
 use Rattle.answer.specs.declared.Code.the-variants.{Ok, Einval, Eperm, Ebadf}
 use Rattle.answer.specs.Answer.{numberOf}
-use Rattle.mem_domain.specs.declared.MemPartition.{MemPartition}
+use Rattle.mem_partition.specs.declared.MemPartition.{MemPartition}
 use Rattle.mem_domain.specs.Scan.{lowest, anyTo}
-use Rattle.mem_domain.specs.Partition.{isFree, isActive, isValid, overlapOf, isWindow, endOf}
+use Rattle.mem_partition.specs.Partition.{isFree, isActive, isValid, overlapOf, isWindow, endOf}
 use Rattle.mem_domain.specs.Domain.{slots as SLOTS, slotAt, freeAt, windowAt, clashes, addable, hasFree, hasWindow, withCount, changedAt, added, removed}
 use Rattle.mem_domain.proofs.Scan.{any-at, any-hit, any-none, any-miss}
 use Rattle.mem_domain.proofs.Domain.{add-accepts, added-ok, remove-matches, removed-ok}
 use Rattle.mem_domain.proofs.Slots.{no-clash, clash-none}
 use Rattle.userspace.specs.declared.KernelObject.{KernelObject}
-use Rattle.userspace.specs.declared.Validated.the-variants.{Refused}
-use Rattle.userspace.specs.declared.InitCheck.the-variants.{MustBeInit, MustNotBeInit}
-use Rattle.userspace.specs.Bit.{isSet}
-use Rattle.userspace.specs.Userspace.{THREADS, public, holds, typeFits, access, initialised, initJudged, judged, validated, answerOf}
+use Rattle.userspace_decide.specs.declared.Validated.the-variants.{Refused}
+use Rattle.userspace_names.specs.declared.InitCheck.the-variants.{MustBeInit, MustNotBeInit}
+use Rattle.bits.specs.Bit.{isSet}
+use Rattle.userspace_decide.specs.Decide.{initJudged, judged, answerOf}
+use Rattle.userspace.specs.Userspace.{THREADS, public, holds, typeFits, access, initialised, validated}
 use Rattle.tables.specs.Table.{HANDLES, DOMAINS}
 use Rattle.tables.specs.State.{State, object, thread, domain}
 use Rattle.mem_check.specs.Memory.{coveredRun, reached, memoryRule}
-use Rattle.judging.specs.declared.Call.{Call}
-use Rattle.judging.specs.Calls.{create, delete, revoke, init, uninit, recycle, publish, thread as newThread, end, inherit, assign, add, remove, Op, validate, grant, release, check, exit, sup, unknown, opOf}
+use Rattle.decoding.specs.declared.Call.{Call}
+use Rattle.decoding.specs.Calls.{create, delete, revoke, init, uninit, recycle, publish, thread as newThread, end, inherit, assign, add, remove, Op, validate, grant, release, check, exit, sup, unknown, opOf}
 use Rattle.judging.specs.Judge.{done, live, supervisor, typeOf, mayUse, servesAt, serves, isMode, modeOf, isAttr, wellFormed, partitionOf, Use, noHandle, taken, free, useOf, withHandle, rule, supRule, isUnknown, isPrivileged, judgeOp, judge}
 use Rattle.call_laws.proofs.Passed.{TakenAt, FreeAt, in-range}
 use Rattle.call_laws.proofs.Bytes.{EveryByte, run-all, all-run}

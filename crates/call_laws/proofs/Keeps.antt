@@ -9,21 +9,22 @@ use mathlib.Core.List.{List, []}
 use lib.Dec.{eqb, ltb, lit<, lit≤}
 use lib.ListN.{length, getD, List·getD-eq-default}
 use borrow.Author.Tests.{ltb-true, eqb-true, eq-eqb, not-false}
-use Rattle.mem_domain.specs.declared.MemPartition.{MemPartition}
+use Rattle.mem_partition.specs.declared.MemPartition.{MemPartition}
 use Rattle.mem_domain.specs.Domain.{withCount, added, removed}
 use Rattle.mem_domain.proofs.Scan.{any-miss}
 use Rattle.domain_rules.specs.Sound.{SlotsKeep, attrOk}
 use Rattle.domain_rules.proofs.All.{both-true, either-true}
 use Rattle.userspace.specs.declared.KernelObject.{KernelObject}
-use Rattle.userspace.specs.Bit.{isSet, clearBit, is-clear-same, is-zero}
+use Rattle.bits.specs.Bit.{isSet, clearBit, is-clear-same, is-zero}
 use Rattle.userspace.specs.Laws.{does}
-use Rattle.userspace.specs.Userspace.{THREADS, INITIALISED, PUBLIC, holds, newObject, withWord, granted, revoked, recycled, initiated, uninitiated, published}
+use Rattle.userspace_decide.specs.Decide.{INITIALISED, PUBLIC}
+use Rattle.userspace.specs.Userspace.{THREADS, holds, newObject, withWord, granted, revoked, recycled, initiated, uninitiated, published}
 use Rattle.tables.specs.declared.Thread.{Thread}
 use Rattle.tables.specs.Table.{HANDLES, DOMAINS, noObject, nobody}
 use Rattle.tables.specs.State.{State, object, thread, domain}
 use Rattle.rules.specs.Rules.{isLive, Keeps}
-use Rattle.judging.specs.declared.Call.{Call}
-use Rattle.judging.specs.Calls.{Sup, create, delete, revoke, init, uninit, recycle, publish, thread as newThread, end, inherit, assign, add, remove, Op, validate, grant, release, check, exit, sup, unknown, opOf, callOf}
+use Rattle.decoding.specs.declared.Call.{Call}
+use Rattle.decoding.specs.Calls.{Sup, create, delete, revoke, init, uninit, recycle, publish, thread as newThread, end, inherit, assign, add, remove, Op, validate, grant, release, check, exit, sup, unknown, opOf, callOf}
 use Rattle.judging.specs.Judge.{live, servesAt, serves, partitionOf, wellFormed, isAttr, useOf, rule, supRule, judge, heard}
 use Rattle.judging.specs.Change.{one, each, enact, inherited, objectChange, born, moved, threadChange, domainChange, change, after, left}
 use Rattle.call_laws.proofs.Cascade.{ok}

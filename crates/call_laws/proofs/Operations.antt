@@ -8,8 +8,8 @@ use lib.Dec.{eqb}
 use Rattle.userspace.specs.Userspace.{THREADS, initialised}
 use Rattle.tables.specs.Table.{HANDLES, DOMAINS}
 use Rattle.tables.specs.State.{State, object, thread, domain}
-use Rattle.judging.specs.declared.Call.{Call}
-use Rattle.judging.specs.Calls.{create, delete, revoke, init, uninit, recycle, publish, thread as newThread, end, inherit, assign, add, remove, Op, validate, grant, release, check, exit, sup, opOf}
+use Rattle.decoding.specs.declared.Call.{Call}
+use Rattle.decoding.specs.Calls.{create, delete, revoke, init, uninit, recycle, publish, thread as newThread, end, inherit, assign, add, remove, Op, validate, grant, release, check, exit, sup, opOf}
 use Rattle.judging.specs.Judge.{live, supervisor, typeOf, mayUse, partitionOf, useOf, isPrivileged, judge}
 use Rattle.call_laws.proofs.Passed.{TakenAt}
 use Rattle.call_laws.proofs.Bytes.{EveryByte}

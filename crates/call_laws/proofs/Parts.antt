@@ -11,8 +11,9 @@ use lib.Dec.{ltb, lit<, lit≤}
 use lib.ListN.{length, getD}
 use Rattle.domain_rules.specs.Sound.{SlotsKeep}
 use Rattle.userspace.specs.declared.KernelObject.{KernelObject}
-use Rattle.userspace.specs.Bit.{isSet, setBit, clearBit, set-lt, clear-lt, is-set-other, is-clear-same, is-clear-other, is-zero}
-use Rattle.userspace.specs.Userspace.{THREADS, INITIALISED, holds, withWord, withFlags, changedAt, done, refused, newObject, granted, revoked, recycled, initiated}
+use Rattle.bits.specs.Bit.{isSet, setBit, clearBit, set-lt, clear-lt, is-set-other, is-clear-same, is-clear-other, is-zero}
+use Rattle.userspace_decide.specs.Decide.{INITIALISED}
+use Rattle.userspace.specs.Userspace.{THREADS, holds, withWord, withFlags, changedAt, done, refused, newObject, granted, revoked, recycled, initiated}
 use Rattle.tables.specs.declared.Thread.{Thread}
 use Rattle.tables.specs.Table.{HANDLES, DOMAINS, noObject, nobody}
 use Rattle.tables.specs.State.{State, object, thread, domain}

@@ -10,8 +10,8 @@ use Rattle.answer.specs.declared.Answer.{Answer}
 use Rattle.userspace.specs.Userspace.{THREADS}
 use Rattle.tables.specs.Table.{HANDLES}
 use Rattle.tables.specs.State.{State}
-use Rattle.judging.specs.declared.Call.{Call}
-use Rattle.judging.specs.Calls.{Op, opOf}
+use Rattle.decoding.specs.declared.Call.{Call}
+use Rattle.decoding.specs.Calls.{Op, opOf}
 use Rattle.judging.specs.Judge.{live, supervisor, typeOf, wellFormed, Use, noHandle, taken, free, useOf, withHandle, rule, isUnknown, isPrivileged, judgeOp, judge}
 use Rattle.call_laws.proofs.Cascade.{ok}
 

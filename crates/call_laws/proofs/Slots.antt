@@ -6,10 +6,10 @@ use mathlib.Core.Path.{_≡_, refl, sym, _∙_}
 use mathlib.Core.Bool.{true, false, true≢false, false≢true}
 use mathlib.Core.List.{List}
 use lib.ListN.{set, length-set}
-use Rattle.mem_domain.specs.declared.MemPartition.{MemPartition}
-use Rattle.mem_domain.specs.Partition.{empty, isActive, overlapOf}
+use Rattle.mem_partition.specs.declared.MemPartition.{MemPartition}
+use Rattle.mem_partition.specs.Partition.{empty, isActive, overlapOf}
 use Rattle.mem_domain.specs.Domain.{slots, slotAt, addable, lowestFree, lowestWindow, withCount, changedAt, added, removed}
-use Rattle.mem_domain.proofs.Partition.{overlap-sym, valid-size, size-active}
+use Rattle.mem_partition.proofs.Partition.{overlap-sym, valid-size, size-active}
 use Rattle.mem_domain.proofs.Domain.{add-accepts, add-stores, remove-matches, remove-frees}
 use Rattle.mem_domain.proofs.Slots.{free-below, window-below, addable-valid, addable-apart, slot-same, slot-other}
 use Rattle.domain_rules.specs.Sound.{SlotsKeep, attrOk}

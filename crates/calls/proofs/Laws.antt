@@ -14,8 +14,8 @@ use Rattle.answer.specs.declared.Code.the-variants.{Ok, Short, Einval, Value, R
 use Rattle.answer.specs.Answer.{numberOf}
 use Rattle.tables.specs.State.{State, stateOf, Fit, objects-back, threads-back, domains-back, flatObjects, flatThreads, flatDomains}
 use Rattle.rules.specs.Rules.{Sound, keepsTest}
-use Rattle.judging.specs.declared.Call.{Call}
-use Rattle.judging.specs.Calls.{opOf, callOf}
+use Rattle.decoding.specs.declared.Call.{Call}
+use Rattle.decoding.specs.Calls.{opOf, callOf}
 use Rattle.judging.specs.Judge.{refused, judge, heard, sized, judgeIn}
 use Rattle.judging.specs.Change.{objectChange, threadChange, domainChange, after, left}
 use Rattle.judging.proofs.Sizes.{sized-by}

@@ -11,7 +11,7 @@ ghost use Rattle.judging.specs.Change.{after, left};
 ghost use Rattle.calls.specs.Calls.{Called, Run, partsIn, partAt, putAnswer};
 ghost use Rattle.calls.specs.Steps.{Stepped, Told, Ranged};
 use answer::Answer;
-use judging::Call;
+use decoding::Call;
 
 // How many bytes a call has.
 const CALL: usize = 16;
@@ -31,7 +31,7 @@ fn step(objects: &mut [u64], threads: &mut [u32], slots: &mut [u32], c: Call) ->
     if r.code != answer::OK {
         return r;
     }
-    applying::change_objects(objects, c);
+    applying_objects::change_objects(objects, c);
     if c.op < 4 {
         return r;
     }
@@ -62,7 +62,7 @@ fn turn(
     ensures { λ _. ⌜ Told (stateOf (now (objects .entry)) (now (threads .entry)) (now (slots .entry))) (partAt (now (log .entry)) k) k (now (out .entry)) (now (objects .exit)) (now (threads .exit)) (now (slots .exit)) (now (out .exit)) ⌝ }
 {
     let from = CALL * k;
-    let c = judging::decode(&log[from..from + CALL]);
+    let c = decoding::decode(&log[from..from + CALL]);
     let a = step(objects, threads, slots, c);
     put_answer(out, k, a);
 }

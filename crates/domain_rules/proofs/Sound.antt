@@ -9,13 +9,13 @@ use mathlib.Core.List.{List}
 use lib.Dec.{eqb}
 use lib.ListN.{length, List·getD-eq-default}
 use borrow.Author.Tests.{eqb-true, eq-eqb}
-use Rattle.mem_domain.specs.Partition.{empty, isFree, isActive, isValid, overlapOf}
+use Rattle.mem_partition.specs.Partition.{empty, isFree, isActive, isValid, overlapOf}
 use Rattle.mem_domain.specs.Domain.{slots, slotAt, activeCount, withCount}
 use Rattle.domain_rules.specs.Scan.{allTo}
 use Rattle.domain_rules.specs.Sound.{SlotsKeep, attrOk, slotOk, apartOf, apartTo, slotSound, slotsSound, domainSound}
-use Rattle.mem_domain.specs.declared.MemPartition.{MemPartition}
+use Rattle.mem_partition.specs.declared.MemPartition.{MemPartition}
 use Rattle.domain_rules.proofs.All.{both-true, both, either-true, or-left, or-right, isnt-true, all-at, all-from}
-use Rattle.mem_domain.proofs.Partition.{overlap-sym}
+use Rattle.mem_partition.proofs.Partition.{overlap-sym}
 
 -- ---- one slot
 

@@ -6,9 +6,9 @@ use mathlib.Core.Bool.{Bool, true, false, cond, not, _&&_, _||_}
 use mathlib.Core.List.{List}
 use lib.Dec.{eqb}
 use lib.ListN.{length}
-use Rattle.mem_domain.specs.Partition.{empty, isFree, isActive, isValid, overlapOf}
+use Rattle.mem_partition.specs.Partition.{empty, isFree, isActive, isValid, overlapOf}
 use Rattle.mem_domain.specs.Domain.{slots, slotAt, activeCount}
-use Rattle.mem_domain.specs.declared.MemPartition.{MemPartition}
+use Rattle.mem_partition.specs.declared.MemPartition.{MemPartition}
 use Rattle.mem_domain.specs.declared.MemDomain.{MemDomain}
 use Rattle.domain_rules.specs.Scan.{allTo}
 

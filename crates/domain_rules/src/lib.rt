@@ -5,7 +5,7 @@ ghost use mathlib.Core.Path.{_≡_};
 ghost use Prim.Native.Nat.{_<_};
 ghost use Rattle.domain_rules.specs.Sound.{attrOk, slotOk, apartOf, apartTo, slotSound, slotsSound, domainSound};
 use mem_domain::MemDomain;
-use mem_domain::MemPartition;
+use mem_partition::MemPartition;
 
 const SLOTS: usize = mem_domain::MAX_PARTITIONS as usize;
 

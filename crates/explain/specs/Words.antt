@@ -6,8 +6,8 @@ use mathlib.Core.List.{List, [], _++_}
 use lib.Dec.{eqb, ltb}
 use lib.ListN.{length, getD}
 use Rattle.text.specs.Text.{ascii, decimal}
-use Rattle.judging.specs.declared.Call.{Call}
-use Rattle.judging.specs.Calls.{callOf}
+use Rattle.decoding.specs.declared.Call.{Call}
+use Rattle.decoding.specs.Calls.{callOf}
 use Rattle.calls.specs.Calls.{partAt}
 
 unfoldable pub unknown : ℕ → List ℕ

@@ -9,7 +9,7 @@ ghost use Rattle.lines.specs.Lines.{Lines};
 ghost use Rattle.lines.specs.Steps.{Piece};
 ghost use Rattle.calls.specs.Calls.{partAt};
 ghost use Rattle.explain.specs.Words.{unknown, operation, answerName, field, unused, mode, fieldA, fieldB, fieldC, fieldD, callWords, cutOff, partWords, answerWords, explained, explainedAt};
-use judging::Call;
+use decoding::Call;
 use lines::Put;
 
 // How many bytes a call has, and the longest line.
@@ -223,7 +223,7 @@ fn put_part(text: &mut [u8], at: usize, bytes: &[u8]) -> usize
     if bytes.len() < CALL {
         return put_cut_off(text, at, bytes.len() as u32);
     }
-    put_call(text, at, judging::decode(bytes))
+    put_call(text, at, decoding::decode(bytes))
 }
 
 fn put_answer(text: &mut [u8], at: usize, code: u32, value: u32) -> usize

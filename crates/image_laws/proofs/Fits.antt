@@ -15,10 +15,10 @@ use Rattle.domain_rules.specs.Sound.{SlotsKeep, attrOk}
 use Rattle.domain_rules.proofs.All.{either-true}
 use Rattle.mem_domain.specs.Domain.{slotAt}
 use Rattle.mem_domain.specs.Domain.{slots as SLOTS}
-use Rattle.mem_domain.specs.Partition.{empty, isActive, isValid}
-use Rattle.mem_domain.specs.declared.MemPartition.{MemPartition}
-use Rattle.mem_domain.proofs.Partition.{valid-end}
-use Rattle.userspace.specs.Bit.{setBit, set-lt}
+use Rattle.mem_partition.specs.Partition.{empty, isActive, isValid}
+use Rattle.mem_partition.specs.declared.MemPartition.{MemPartition}
+use Rattle.mem_partition.proofs.Partition.{valid-end}
+use Rattle.bits.specs.Bit.{setBit, set-lt}
 use Rattle.tables.specs.Tabulate.{getD-tabulate}
 use Rattle.tables.specs.Table.{HANDLES, DOMAINS, objectAt, threadAt, partitionAt, partitionsAt}
 use Rattle.tables.specs.State.{stateOf, object, thread, domain, object-of, thread-of, domain-of}

@@ -8,7 +8,7 @@ use lib.Dec.{ltb}
 use lib.ListN.{length, replicate}
 use Rattle.domain_rules.specs.Scan.{allTo}
 use Rattle.domain_rules.specs.Sound.{slotsSound, slotSound, slotOk, apartOf}
-use Rattle.userspace.specs.Bit.{setBit}
+use Rattle.bits.specs.Bit.{setBit}
 use Rattle.tables.specs.Tabulate.{tabulate}
 use Rattle.tables.specs.Table.{objectAt, threadAt, partitionAt, partitionsAt}
 use Rattle.rules.specs.Rules.{Sound, keepsTest, liveTo, objectOk, threadOk, threadSound, domainsSound}

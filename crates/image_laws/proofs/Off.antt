@@ -8,8 +8,8 @@ use mathlib.Core.List.{List}
 use lib.ListN.{getD}
 use Rattle.mem_domain.specs.Domain.{slotAt}
 use Rattle.mem_domain.specs.Domain.{slots as SLOTS}
-use Rattle.mem_domain.specs.Partition.{empty}
-use Rattle.mem_domain.specs.declared.MemPartition.{MemPartition}
+use Rattle.mem_partition.specs.Partition.{empty}
+use Rattle.mem_partition.specs.declared.MemPartition.{MemPartition}
 use Rattle.tables.specs.Tabulate.{getD-tabulate}
 use Rattle.tables.specs.Table.{DOMAINS, noObject, nobody, objectOf, objectAt, threadOf, threadAt, partitionAt, partitionsAt}
 use Rattle.tables.specs.State.{State, stateOf, object, thread, domain}

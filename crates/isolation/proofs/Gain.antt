@@ -7,7 +7,7 @@ use mathlib.Core.Bool.{Bool, true, false, false≢true}
 use mathlib.Core.List.{List, [], _∷_}
 use Rattle.tables.specs.State.{State}
 use Rattle.rules.specs.Rules.{Keeps}
-use Rattle.judging.specs.declared.Call.{Call}
+use Rattle.decoding.specs.declared.Call.{Call}
 use Rattle.judging.specs.Judge.{supervisor, judge}
 use Rattle.judging.specs.Change.{after}
 use Rattle.call_laws.proofs.Keeps.{keeps-after}

@@ -7,8 +7,8 @@ use mathlib.Core.Bool.{Bool, true, false}
 use Rattle.userspace.specs.Userspace.{THREADS}
 use Rattle.tables.specs.State.{State, thread, domain}
 use Rattle.rules.specs.Rules.{isLive, Keeps}
-use Rattle.judging.specs.declared.Call.{Call}
-use Rattle.judging.specs.Calls.{grant, exit, opOf}
+use Rattle.decoding.specs.declared.Call.{Call}
+use Rattle.decoding.specs.Calls.{grant, exit, opOf}
 use Rattle.judging.specs.Judge.{supervisor, judge}
 use Rattle.judging.specs.Change.{after}
 use Rattle.call_laws.proofs.Conditions.{access-iff}

@@ -9,13 +9,14 @@ use mathlib.Core.List.{List}
 use lib.ListN.{length}
 use borrow.Author.Tests.{not-false}
 use Rattle.answer.specs.declared.Answer.{Answer}
-use Rattle.userspace.specs.Bit.{isSet}
-use Rattle.userspace.specs.declared.InitCheck.{InitCheck}
-use Rattle.userspace.specs.Userspace.{THREADS, PUBLIC, typeFits, public, access, judged, validated, answerOf}
+use Rattle.bits.specs.Bit.{isSet}
+use Rattle.userspace_names.specs.declared.InitCheck.{InitCheck}
+use Rattle.userspace_decide.specs.Decide.{PUBLIC, judged, answerOf}
+use Rattle.userspace.specs.Userspace.{THREADS, typeFits, public, access, validated}
 use Rattle.tables.specs.State.{State, object, thread}
 use Rattle.rules.specs.Rules.{isSupervisor, Keeps}
-use Rattle.judging.specs.declared.Call.{Call}
-use Rattle.judging.specs.Calls.{Op, validate, grant, release, check, exit, sup, unknown, opOf, callOf}
+use Rattle.decoding.specs.declared.Call.{Call}
+use Rattle.decoding.specs.Calls.{Op, validate, grant, release, check, exit, sup, unknown, opOf, callOf}
 use Rattle.judging.specs.Judge.{live, supervisor, typeOf, mayUse, modeOf, Use, noHandle, taken, free, useOf, withHandle, rule, isPrivileged, judgeOp, judge, heard}
 use Rattle.judging.specs.Change.{after, left}
 use Rattle.call_laws.proofs.Cascade.{past}

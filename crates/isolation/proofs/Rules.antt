@@ -9,14 +9,15 @@ use mathlib.Core.Bool.{Bool, true, false, cond, _&&_, _||_, false≢true}
 use mathlib.Core.List.{List, [], _∷_}
 use lib.Dec.{eqb}
 use Rattle.domain_rules.proofs.All.{both-true}
-use Rattle.userspace.specs.Bit.{isSet}
-use Rattle.userspace.specs.Userspace.{THREADS, INITIALISED, PUBLIC, initialised, public}
+use Rattle.bits.specs.Bit.{isSet}
+use Rattle.userspace_decide.specs.Decide.{INITIALISED, PUBLIC}
+use Rattle.userspace.specs.Userspace.{THREADS, initialised, public}
 use Rattle.tables.specs.Table.{nobody}
 use Rattle.tables.specs.State.{State, object, thread, domain}
 use Rattle.rules.specs.Rules.{isLive, isSupervisor, Keeps}
 use Rattle.mem_check.specs.Memory.{isCovered}
-use Rattle.judging.specs.declared.Call.{Call}
-use Rattle.judging.specs.Calls.{check, exit, opOf}
+use Rattle.decoding.specs.declared.Call.{Call}
+use Rattle.decoding.specs.Calls.{check, exit, opOf}
 use Rattle.judging.specs.Judge.{live, supervisor, typeOf, mayUse, judge}
 use Rattle.judging.specs.Change.{after}
 use Rattle.call_laws.proofs.Keeps.{keeps-after}

@@ -14,8 +14,8 @@ use Rattle.answer.specs.declared.Answer.{Answer}
 use Rattle.userspace.specs.Userspace.{initialised}
 use Rattle.tables.specs.State.{State, object}
 use Rattle.rules.specs.Rules.{Keeps}
-use Rattle.judging.specs.declared.Call.{Call}
-use Rattle.judging.specs.Calls.{opOf}
+use Rattle.decoding.specs.declared.Call.{Call}
+use Rattle.decoding.specs.Calls.{opOf}
 use Rattle.judging.specs.Judge.{supervisor, mayUse, judge}
 use Rattle.judging.specs.Change.{after}
 use Rattle.call_laws.proofs.Keeps.{keeps-after}

@@ -7,8 +7,8 @@ use mathlib.Core.Bool.{Bool, true, false, true≢false}
 use Rattle.userspace.specs.declared.KernelObject.{KernelObject}
 use Rattle.tables.specs.State.{State, object, thread, domain}
 use Rattle.rules.specs.Rules.{Keeps}
-use Rattle.judging.specs.declared.Call.{Call}
-use Rattle.judging.specs.Calls.{Op, validate, grant, release, check, exit, sup, unknown, opOf}
+use Rattle.decoding.specs.declared.Call.{Call}
+use Rattle.decoding.specs.Calls.{Op, validate, grant, release, check, exit, sup, unknown, opOf}
 use Rattle.judging.specs.Judge.{supervisor, isUnknown, isPrivileged, judge}
 use Rattle.judging.specs.Change.{after}
 use Rattle.call_laws.proofs.Passed.{in-range}

@@ -5,7 +5,7 @@ use mathlib.Core.Bool.{Bool, false, cond, _&&_, _||_}
 use mathlib.Core.List.{List, [], _∷_}
 use Rattle.tables.specs.State.{State, thread, domain}
 use Rattle.mem_check.specs.Memory.{isCovered}
-use Rattle.judging.specs.declared.Call.{Call}
+use Rattle.decoding.specs.declared.Call.{Call}
 use Rattle.judging.specs.Judge.{live, supervisor}
 
 -- thread t may read, or write, the byte at x: it lives, and is a supervisor or has the byte in its domain with that right

@@ -7,8 +7,8 @@ use lib.Dec.{eqb}
 use Rattle.answer.specs.declared.Answer.{Answer}
 use Rattle.userspace.specs.Userspace.{initialised}
 use Rattle.tables.specs.State.{State, object}
-use Rattle.judging.specs.declared.Call.{Call}
-use Rattle.judging.specs.Calls.{Op, validate, grant, release, check, exit, sup, unknown, opOf}
+use Rattle.decoding.specs.declared.Call.{Call}
+use Rattle.decoding.specs.Calls.{Op, validate, grant, release, check, exit, sup, unknown, opOf}
 use Rattle.judging.specs.Judge.{supervisor, mayUse, judge}
 use Rattle.judging.specs.Change.{after}
 use Rattle.isolation.specs.View.{bitAt}

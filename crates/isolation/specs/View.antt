@@ -4,7 +4,7 @@ use Prim.Native.Nat.{ℕ}
 use mathlib.Core.Path.{_≡_}
 use mathlib.Core.Logic.{_≢_}
 use mathlib.Core.Bool.{Bool, true, false}
-use Rattle.userspace.specs.Bit.{isSet}
+use Rattle.bits.specs.Bit.{isSet}
 use Rattle.userspace.specs.Userspace.{initialised, public}
 use Rattle.tables.specs.State.{State, object, thread, domain}
 use Rattle.judging.specs.Judge.{live, typeOf, mayUse}

@@ -7,19 +7,20 @@ use mathlib.Core.Path.{_≡_, refl, sym, ap, _∙_}
 use mathlib.Core.Logic.{_≢_}
 use mathlib.Core.Bool.{true, false, false≢true}
 use Rattle.mem_domain.specs.Scan.{firstFrom}
-use Rattle.mem_domain.specs.Partition.{isValid, meets, overlapOf, holds as windowHolds}
+use Rattle.mem_partition.specs.Partition.{isValid, meets, overlapOf, holds as windowHolds}
 use Rattle.mem_domain.specs.Domain.{withCount, clashes, addable, lowestFree, hasFree, added, changedAt as slotChanged}
-use Rattle.userspace.specs.Bit.{bitOf, isSet, setBit, clearBit}
+use Rattle.bits.specs.Bit.{bitOf, isSet, setBit, clearBit}
 use Rattle.userspace.specs.declared.KernelObject.{KernelObject}
-use Rattle.userspace.specs.Userspace.{PUBLIC, INITIALISED, public, initialised, newObject, holds, typeFits, access, changedAt, judged, validated, granted, revoked}
+use Rattle.userspace_decide.specs.Decide.{PUBLIC, INITIALISED, judged}
+use Rattle.userspace.specs.Userspace.{public, initialised, newObject, holds, typeFits, access, changedAt, validated, granted, revoked}
 use Rattle.tables.specs.declared.Thread.{Thread}
 use Rattle.tables.specs.Tabulate.{tabulate}
 use Rattle.tables.specs.Table.{noObject, objectAt, threadAt, partitionAt, partitionsAt}
 use Rattle.tables.specs.State.{State, objectsOf, threadsOf, domainsOf, object, thread, domain}
 use Rattle.rules.specs.Rules.{isLive, isSupervisor, Keeps}
 use Rattle.mem_check.specs.Memory.{gives, isCovered, coveredRun, reached, memoryRule}
-use Rattle.judging.specs.declared.Call.{Call}
-use Rattle.judging.specs.Calls.{create, uninit, publish, thread as newThread, end, add, grant, opOf, sup}
+use Rattle.decoding.specs.declared.Call.{Call}
+use Rattle.decoding.specs.Calls.{create, uninit, publish, thread as newThread, end, add, grant, opOf, sup}
 use Rattle.judging.specs.Judge.{_⇒_⨾_, live, supervisor, wellFormed, useOf, withHandle, rule, supRule, serves, isUnknown, isPrivileged, judgeOp, judge}
 use Rattle.judging.specs.Change.{enact, objectChange, born, threadChange, domainChange, change, after}
 use Rattle.call_laws.proofs.Numbers.{opNumber, number-names}

@@ -4,11 +4,11 @@ use mathlib.Core.Path.{_≡_, refl, sym}
 use mathlib.Core.Logic.{_≢_, _↔_}
 use mathlib.Core.Bool.{false}
 use Rattle.userspace.specs.declared.KernelObject.{KernelObject}
-use Rattle.userspace.specs.Bit.{isSet}
+use Rattle.bits.specs.Bit.{isSet}
 use Rattle.userspace.specs.Userspace.{initialised, public}
 use Rattle.tables.specs.State.{State, object, thread, domain}
 use Rattle.rules.specs.Rules.{Keeps}
-use Rattle.judging.specs.declared.Call.{Call}
+use Rattle.decoding.specs.declared.Call.{Call}
 use Rattle.judging.specs.Judge.{supervisor, judge}
 use Rattle.call_laws.proofs.Changes.{OneObject}
 use Rattle.isolation.specs.View.{bitAt, SameTypes, SamePublics, SameLives, SameHandles, SameRecord, SameBits, SameInits, SameSlots, Agree}

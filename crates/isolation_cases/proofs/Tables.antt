@@ -10,8 +10,8 @@ use Rattle.answer.specs.declared.Answer.{Answer}
 use Rattle.tables.specs.State.{State, stateOf}
 use Rattle.rules.specs.Rules.{Sound}
 use Rattle.rules.proofs.Rules.{sound-test}
-use Rattle.judging.specs.declared.Call.{Call}
-use Rattle.judging.specs.Calls.{callOf}
+use Rattle.decoding.specs.declared.Call.{Call}
+use Rattle.decoding.specs.Calls.{callOf}
 use Rattle.judging.specs.Judge.{supervisor, judgeIn, heard}
 use Rattle.judging.specs.Change.{after, left}
 use Rattle.call_laws.proofs.Order.{left-other, left-whole}

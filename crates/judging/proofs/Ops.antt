@@ -16,8 +16,8 @@ use Rattle.userspace.specs.Userspace.{THREADS}
 use Rattle.tables.specs.Table.{DOMAINS}
 use Rattle.tables.specs.State.{State, object, thread, domain}
 use Rattle.judging.proofs.Order.{pass-not}
-use Rattle.judging.specs.declared.Call.{Call}
-use Rattle.judging.specs.Calls.{unknown, opOf}
+use Rattle.decoding.specs.declared.Call.{Call}
+use Rattle.decoding.specs.Calls.{unknown, opOf}
 use Rattle.judging.specs.Judge.{done, wellFormed, bareFields, Use, taken, free, noHandle, useOf, withHandle, supRule, rule, isUnknown, isPrivileged, judgeOp, namedIn, inheritIn, createIn, checkIn, exitIn, addIn, removeIn, threadFields}
 
 absurd-or : (n : ℕ) → 17 ≤ n → n < 19 → n ≢ 18 → n ≡ 17

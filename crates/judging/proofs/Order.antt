@@ -10,16 +10,17 @@ use Rattle.tables.specs.declared.Thread.{Thread}
 use Rattle.answer.specs.declared.Answer.{Answer}
 use Rattle.answer.specs.declared.Code.{Code}
 use Rattle.answer.specs.declared.Code.the-variants.{Einval, Eperm, Ebadf}
-use Rattle.userspace.specs.Userspace.{THREADS, answerOf, validated}
-use Rattle.userspace.specs.declared.Validated.{Validated}
-use Rattle.userspace.specs.declared.Validated.the-variants.{Ok as Fine, Refused}
-use Rattle.userspace.specs.declared.InitCheck.{InitCheck}
+use Rattle.userspace_decide.specs.Decide.{answerOf}
+use Rattle.userspace.specs.Userspace.{THREADS, validated}
+use Rattle.userspace_decide.specs.declared.Validated.{Validated}
+use Rattle.userspace_decide.specs.declared.Validated.the-variants.{Ok as Fine, Refused}
+use Rattle.userspace_names.specs.declared.InitCheck.{InitCheck}
 use Rattle.userspace.specs.declared.KernelObject.{KernelObject}
 use Rattle.tables.specs.Table.{HANDLES, noObject}
 use Rattle.tables.specs.State.{State, object, thread}
 use Rattle.rules.specs.Rules.{isLive, isSupervisor}
-use Rattle.judging.specs.declared.Call.{Call}
-use Rattle.judging.specs.Calls.{Op, opOf}
+use Rattle.decoding.specs.declared.Call.{Call}
+use Rattle.decoding.specs.Calls.{Op, opOf}
 use Rattle.judging.specs.Judge.{refused, _⇒_⨾_, live, supervisor, wellFormed, Use, noHandle, taken, useOf, withHandle, rule, isUnknown, isPrivileged, judgeOp, judge, takenIn, plain}
 
 -- a callee's answer by its contract, and the branch that says what it is not

@@ -7,7 +7,7 @@ use borrow.Author.Tests.{eqb-true}
 use Rattle.answer.specs.declared.Code.the-variants.{Value}
 use Rattle.domain_rules.proofs.All.{both-true}
 use Rattle.tables.specs.State.{stateOf}
-use Rattle.judging.specs.declared.Call.{Call}
+use Rattle.decoding.specs.declared.Call.{Call}
 use Rattle.judging.specs.Judge.{refused, judge, sized, Sized, judgeIn}
 
 module _ (os ts ss : List ℕ) where

@@ -1,10 +1,6 @@
 -- Two answers that meet a function's promise are the same: over each function's own contract.
 use mathlib.Core.Path.{_≡_, sym, _∙_}
-use Rattle.judging.proofs.decode.Reads as decode
 use Rattle.judging.proofs.judge.Reads as judge
-
-pub decode-unique : (κs : _) (a : _) (r₁ r₂ : _) (s₁ s₂ : _) → decode.Post κs a r₁ s₁ → decode.Post κs a r₂ s₂ → r₁ ≡ r₂
-decode-unique κs a r₁ r₂ s₁ s₂ p q = p ∙ sym q
 
 pub judge-unique : (κs : _) (a : _) (r₁ r₂ : _) (s₁ s₂ : _) → judge.Post κs a r₁ s₁ → judge.Post κs a r₂ s₂ → r₁ ≡ r₂
 judge-unique κs a r₁ r₂ s₁ s₂ p q = p ∙ sym q

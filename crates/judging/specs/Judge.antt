@@ -9,21 +9,22 @@ use Rattle.answer.specs.declared.Answer.{Answer}
 use Rattle.answer.specs.declared.Code.{Code}
 use Rattle.answer.specs.declared.Code.the-variants.{Ok, Einval, Eperm, Ebadf, Eaddrinuse, Short, Value}
 use Rattle.answer.specs.Answer.{numberOf}
-use Rattle.mem_domain.specs.declared.MemPartition.{MemPartition}
+use Rattle.mem_partition.specs.declared.MemPartition.{MemPartition}
 use Rattle.mem_domain.specs.declared.Changed.{Changed}
 use Rattle.mem_domain.specs.Scan.{anyTo}
 use Rattle.mem_domain.specs.Domain.{slots as SLOTS, withCount, added, removed}
-use Rattle.userspace.specs.declared.InitCheck.{InitCheck}
+use Rattle.userspace_names.specs.declared.InitCheck.{InitCheck}
 use Rattle.userspace.specs.declared.KernelObject.{KernelObject}
-use Rattle.userspace.specs.declared.InitCheck.the-variants.{MustBeInit, MustNotBeInit, DontCare}
-use Rattle.userspace.specs.Userspace.{THREADS, access, validated, answerOf}
+use Rattle.userspace_names.specs.declared.InitCheck.the-variants.{MustBeInit, MustNotBeInit, DontCare}
+use Rattle.userspace_decide.specs.Decide.{answerOf}
+use Rattle.userspace.specs.Userspace.{THREADS, access, validated}
 use Rattle.tables.specs.declared.Thread.{Thread}
 use Rattle.tables.specs.Table.{HANDLES, DOMAINS, noObject, nobody}
 use Rattle.tables.specs.State.{State, stateOf, object, thread, domain}
 use Rattle.rules.specs.Rules.{isLive, isSupervisor}
 use Rattle.mem_check.specs.Memory.{memoryRule}
-use Rattle.judging.specs.declared.Call.{Call}
-use Rattle.judging.specs.Calls.{Sup, create, delete, revoke, init, uninit, recycle, publish, thread as newThread, end, inherit, assign, add, remove, Op, validate, grant, release, check, exit, sup, unknown, opOf, callOf}
+use Rattle.decoding.specs.declared.Call.{Call}
+use Rattle.decoding.specs.Calls.{Sup, create, delete, revoke, init, uninit, recycle, publish, thread as newThread, end, inherit, assign, add, remove, Op, validate, grant, release, check, exit, sup, unknown, opOf, callOf}
 
 -- ---- answers
 

@@ -1,4 +1,4 @@
-// Reading and judging a call: its sixteen bytes, and document 01's answer to it in a state. Nothing is changed here.
+// Judging a call: document 01's answer to it in a state. Nothing is changed here.
 // Promised, for any tables and any call: the answer of the order in specs/Judge.antt; VALUE for tables of other lengths than a state's.
 // Calls that are open to all come first and are judged by one function each: they are what a pump does all day.
 ghost use mathlib.Core.Path.{_≡_};
@@ -8,10 +8,11 @@ ghost use lib.Dec.{eqb, ltb, leb};
 ghost use lib.ListN.{getD, length};
 ghost use Rattle.tables.specs.Table.{noObject, nobody};
 ghost use Rattle.tables.specs.State.{objectsOf, threadsOf, domainsOf, stateOf};
-ghost use Rattle.userspace.specs.Userspace.{access, answerOf};
+ghost use Rattle.userspace_decide.specs.Decide.{answerOf};
+ghost use Rattle.userspace.specs.Userspace.{access};
 ghost use Rattle.mem_domain.specs.Scan.{anyTo};
 ghost use Rattle.rules.specs.Rules.{isLive, isSupervisor};
-ghost use Rattle.judging.specs.Calls.{wordAt, callOf, opOf, validate as validate·op, grant as grant·op, release as release·op, check as check·op, exit as exit·op, sup, create, delete, thread as thread·op};
+ghost use Rattle.decoding.specs.Calls.{opOf, validate as validate·op, grant as grant·op, release as release·op, check as check·op, exit as exit·op, sup, create, delete, thread as thread·op};
 ghost use Rattle.judging.specs.Judge.{isMode, modeOf, isAttr, wellFormed, serves as serves·spec, mayUse, rule, judgeOp, judge as judge·spec, sized, Sized, judgeIn, plain, takenIn, servingAt, checkIn, exitIn, createIn, namedIn, inheritIn, addIn, removeIn, bareFields, threadFields};
 use answer::Answer;
 use answer::EADDRINUSE;
@@ -20,7 +21,8 @@ use answer::EINVAL;
 use answer::EPERM;
 use answer::OK;
 use answer::VALUE;
-use mem_domain::MemPartition;
+use decoding::Call;
+use mem_partition::MemPartition;
 use tables::DOMAINS;
 use tables::HANDLES;
 use tables::OBJECT_NUMBERS;
@@ -28,59 +30,9 @@ use tables::SLOT_NUMBERS;
 use tables::THREAD_NUMBERS;
 use tables::THREADS;
 use tables::Thread;
-use userspace::InitCheck;
 use userspace::KernelObject;
-use userspace::Validated;
-
-// A call as its bytes have it.
-pub struct Call {
-    pub op: u32,
-    pub caller: u32,
-    pub a: u32,
-    pub b: u32,
-    pub c: u32,
-    pub d: u32,
-}
-
-fn wide(x: u8) -> u32
-    ensures { λ r. ⌜ (r ≡ x) × (r < 256) ⌝ }
-{
-    x as u32
-}
-
-fn byte_at(bytes: &[u8], i: usize) -> u32
-    ensures { λ r. ⌜ (r ≡ getD (now (bytes .entry)) i 0) × (r < 256) ⌝ }
-{
-    if i < bytes.len() { wide(bytes[i]) } else { 0 }
-}
-
-fn word_at(bytes: &[u8], i: usize) -> u32
-    requires { ⌜ i ≤ 12 ⌝ }
-    ensures { λ r. ⌜ r ≡ wordAt (now (bytes .entry)) i ⌝ }
-{
-    let low = byte_at(bytes, i) + byte_at(bytes, i + 1) * 256;
-    low + byte_at(bytes, i + 2) * 65536 + byte_at(bytes, i + 3) * 16777216
-}
-
-// The call of sixteen bytes, little-endian. Bytes that are not there read as 0; whoever has fewer than sixteen says SHORT before.
-pub fn decode(bytes: &[u8]) -> Call
-    ensures { λ r. ⌜ r ≡ callOf (now (bytes .entry)) ⌝ }
-{
-    let op = byte_at(bytes, 0);
-    let caller = byte_at(bytes, 1);
-    let a = byte_at(bytes, 2) + byte_at(bytes, 3) * 256;
-    let b = word_at(bytes, 4);
-    let c = word_at(bytes, 8);
-    let d = word_at(bytes, 12);
-    Call {
-        op,
-        caller,
-        a,
-        b,
-        c,
-        d,
-    }
-}
+use userspace_decide::Validated;
+use userspace_names::InitCheck;
 
 fn plain_answer(code: u32) -> Answer
     ensures { λ r. ⌜ r ≡ plain code ⌝ }
@@ -92,7 +44,7 @@ fn object_in(objects: &[u64], h: u32) -> KernelObject
     requires { ⌜ length (now objects) ≡ 512 ⌝ }
     ensures { λ r. ⌜ r ≡ getD (objectsOf (now (objects .entry))) h noObject ⌝ }
 {
-    tables::load_object(objects, h)
+    object_table::load_object(objects, h)
 }
 
 fn thread_in(threads: &[u32], t: u32) -> Thread

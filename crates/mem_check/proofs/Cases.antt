@@ -4,9 +4,9 @@ use mathlib.Core.Path.{_≡_, refl}
 use mathlib.Core.Bool.{true, false}
 use mathlib.Core.List.{List, [], _∷_}
 use Rattle.mem_domain.specs.Scan.{firstFrom}
-use Rattle.mem_domain.specs.Partition.{holds}
-use Rattle.mem_domain.specs.declared.MemPartition.{MemPartition}
-use Rattle.userspace.specs.Bit.{bitOf, isSet}
+use Rattle.mem_partition.specs.Partition.{holds}
+use Rattle.mem_partition.specs.declared.MemPartition.{MemPartition}
+use Rattle.bits.specs.Bit.{bitOf, isSet}
 use Rattle.mem_check.specs.Memory.{gives, isCovered, coveredRun, reached, memoryRule}
 
 abbrev window : ℕ → ℕ → ℕ → MemPartition

@@ -10,10 +10,10 @@ use lib.Dec.{ltb, leb}
 use lib.ListN.{length, getD}
 use borrow.Author.Tests.{ltb-true, leb-true, lt-ltb, le-ltb, le-leb, lt-leb, ne-eqb}
 use Rattle.answer.specs.declared.Answer.{Answer}
-use Rattle.mem_domain.specs.Partition.{endOf, isActive, holds}
+use Rattle.mem_partition.specs.Partition.{endOf, isActive, holds}
 use Rattle.mem_domain.specs.Domain.{slots as SLOTS, slotAt}
 use Rattle.mem_domain.specs.Scan.{lowest}
-use Rattle.mem_domain.specs.declared.MemPartition.{MemPartition}
+use Rattle.mem_partition.specs.declared.MemPartition.{MemPartition}
 use Rattle.mem_domain.proofs.Scan.{lowest-hit, any-at, any-none}
 use Rattle.tables.specs.Tabulate.{getD-tabulate-out}
 use Rattle.tables.specs.Table.{DOMAINS, partitionsAt}

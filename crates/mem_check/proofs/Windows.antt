@@ -6,9 +6,9 @@ use native.Mathlib.Omega.{arith}
 use mathlib.Core.Path.{_≡_, refl, sym, _∙_}
 use mathlib.Core.Bool.{Bool, true, false, cond, true≢false}
 use mathlib.Core.List.{List}
-use Rattle.mem_domain.specs.Partition.{empty, endOf}
+use Rattle.mem_partition.specs.Partition.{empty, endOf}
 use Rattle.mem_domain.specs.Domain.{slots as SLOTS, slotAt}
-use Rattle.mem_domain.specs.declared.MemPartition.{MemPartition}
+use Rattle.mem_partition.specs.declared.MemPartition.{MemPartition}
 use Rattle.tables.specs.Tabulate.{getD-tabulate}
 use Rattle.tables.specs.Table.{partitionAt, partitionsAt}
 use Rattle.mem_check.specs.Memory.{gives, coversAt, isCovered, coveredRun}

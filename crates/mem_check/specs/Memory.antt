@@ -9,8 +9,8 @@ use Rattle.answer.specs.declared.Code.the-variants.{Ok, Einval, Eperm}
 use Rattle.answer.specs.Answer.{numberOf}
 use Rattle.mem_domain.specs.Scan.{anyTo}
 use Rattle.mem_domain.specs.Domain.{slots as SLOTS, slotAt, holdsAt}
-use Rattle.mem_domain.specs.declared.MemPartition.{MemPartition}
-use Rattle.userspace.specs.Bit.{isSet}
+use Rattle.mem_partition.specs.declared.MemPartition.{MemPartition}
+use Rattle.bits.specs.Bit.{isSet}
 use Rattle.tables.specs.Table.{partitionsAt}
 
 -- attr: 1 read, 2 write

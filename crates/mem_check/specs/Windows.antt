@@ -3,8 +3,8 @@ use Prim.Native.Nat.{ℕ, _+_, _-_, _^_, _≤_, _<_}
 use mathlib.Core.Path.{_≡_}
 use mathlib.Core.Bool.{Bool, true, false, cond, _&&_}
 use mathlib.Core.List.{List}
-use Rattle.mem_domain.specs.Partition.{endOf, isActive, holds}
-use Rattle.mem_domain.specs.declared.MemPartition.{MemPartition}
+use Rattle.mem_partition.specs.Partition.{endOf, isActive, holds}
+use Rattle.mem_partition.specs.declared.MemPartition.{MemPartition}
 use Rattle.mem_check.specs.Memory.{gives, isCovered}
 
 -- the slot is active, holds the address and gives the right

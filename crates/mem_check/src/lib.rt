@@ -4,7 +4,7 @@
 ghost use mathlib.Core.Path.{_≡_};
 ghost use Prim.Native.Nat.{_+_, _*_, _<_, _≤_, _^_};
 ghost use lib.ListN.{length};
-ghost use Rattle.userspace.specs.Bit.{isSet};
+ghost use Rattle.bits.specs.Bit.{isSet};
 ghost use Rattle.tables.specs.Table.{partitionAt, partitionsAt};
 ghost use Rattle.mem_check.specs.Memory.{coveredRun, slotsIn, memoryRule, rightBit};
 ghost use Rattle.mem_check.specs.Windows.{runIn, Run, Ahead};

@@ -8,11 +8,11 @@ use lib.ListN.{length, set}
 use borrow.Author.Tests.{ne-eqb}
 use Rattle.answer.specs.Answer.{numberOf}
 use Rattle.answer.specs.declared.Code.the-variants.{Ok, Enoent}
-use Rattle.mem_domain.specs.Partition.{isValid, isFree, holds}
+use Rattle.mem_partition.specs.Partition.{isValid, isFree, holds}
 use Rattle.mem_domain.specs.Domain.{slotAt, lowestFree, containsAddr, refused, changedAt, added, removed, gotSlot, gotten}
-use Rattle.mem_domain.specs.declared.MemPartition.{MemPartition}
+use Rattle.mem_partition.specs.declared.MemPartition.{MemPartition}
 use Rattle.mem_domain.specs.declared.MemDomain.{MemDomain}
-use Rattle.mem_domain.proofs.Partition.{valid-size, share-overlap, holds-active}
+use Rattle.mem_partition.proofs.Partition.{valid-size, share-overlap, holds-active}
 use Rattle.mem_domain.proofs.Domain.{add-accepts, add-stores, removed-zero, gotten-ok}
 use Rattle.mem_domain.proofs.Slots.{free-below, free-free, addable-valid, addable-apart, slot-same, slot-other, contains-set}
 

@@ -8,9 +8,9 @@ use lib.Dec.{ltb, eqb}
 use borrow.Author.Tests.{le-leb, lt-leb}
 use Rattle.answer.specs.Answer.{numberOf}
 use Rattle.answer.specs.declared.Code.the-variants.{Ok, Einval, Enospc, Enoent}
-use Rattle.mem_domain.specs.Partition.{empty, endOf, isValid, overlapOf}
+use Rattle.mem_partition.specs.Partition.{empty, endOf, isValid, overlapOf}
 use Rattle.mem_domain.specs.Domain.{slotAt, freeAt, clashes, crossed, addable, lowestFree, hasFree, lowestWindow, hasWindow, refused, changedAt, added, removed, gotNothing, gotSlot, gotten}
-use Rattle.mem_domain.specs.declared.MemPartition.{MemPartition}
+use Rattle.mem_partition.specs.declared.MemPartition.{MemPartition}
 use Rattle.mem_domain.specs.declared.MemDomain.{MemDomain}
 
 module _ (d : MemDomain) where

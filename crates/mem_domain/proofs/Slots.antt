@@ -10,12 +10,12 @@ use lib.Dec.{eqb}
 use lib.ListN.{length, set}
 use lib.Seq.{getD-set-same, getD-set-other}
 use borrow.Author.Tests.{ltb-true, eqb-true, eq-eqb, not-true}
-use Rattle.mem_domain.specs.Partition.{empty, isValid, overlapOf, isFree, isActive, holds, isWindow}
+use Rattle.mem_partition.specs.Partition.{empty, isValid, overlapOf, isFree, isActive, holds, isWindow}
 use Rattle.mem_domain.specs.Domain.{slotAt, freeAt, activeCount, clashAt, clashes, addable, lowestFree, hasFree, windowAt, lowestWindow, hasWindow, holdsAt, containsAddr}
-use Rattle.mem_domain.specs.declared.MemPartition.{MemPartition}
+use Rattle.mem_partition.specs.declared.MemPartition.{MemPartition}
 use Rattle.mem_domain.specs.Scan.{anyTo}
-use Rattle.mem_domain.proofs.Tests.{and-left, and-right}
-use Rattle.mem_domain.proofs.Partition.{active-holds, holds-at, share-overlap, size-active}
+use Rattle.mem_partition.proofs.Tests.{and-left, and-right}
+use Rattle.mem_partition.proofs.Partition.{active-holds, holds-at, share-overlap, size-active}
 use Rattle.mem_domain.proofs.Scan.{lowest-is, any-at, any-none, any-miss, any-hit, count-gain, count-le, count-all, count-lack, count-same, any-same}
 
 module _ (l : List MemPartition) where

@@ -5,9 +5,6 @@ use mathlib.Core.Bool.{Bool}
 use Rattle.mem_domain.specs.declared.MemDomain.{MemDomain}
 use Rattle.mem_domain.specs.declared.Changed.{Changed}
 use Rattle.mem_domain.specs.declared.Got.{Got}
-use Rattle.mem_domain.proofs.MemPartition.end_u64.Reads as end-u64
-use Rattle.mem_domain.proofs.MemPartition.is_valid.Reads as is-valid
-use Rattle.mem_domain.proofs.MemPartition.overlaps.Reads as overlaps
 use Rattle.mem_domain.proofs.MemDomain.init.Reads as init
 use Rattle.mem_domain.proofs.MemDomain.add_partition.Reads as add-partition
 use Rattle.mem_domain.proofs.MemDomain.remove_partition.Reads as remove-partition
@@ -16,20 +13,6 @@ use Rattle.mem_domain.proofs.MemDomain.counted.Reads as counted
 use Rattle.mem_domain.proofs.MemDomain.partition_get.Reads as partition-get
 use Rattle.mem_domain.proofs.MemDomain.has_free_slot.Reads as has-free-slot
 use Rattle.mem_domain.proofs.MemDomain.contains_addr.Reads as contains-addr
-use Rattle.mem_domain.proofs.partition_valid_decide.Reads as partition-valid-decide
-use Rattle.mem_domain.proofs.partitions_overlap_decide.Reads as partitions-overlap-decide
-
-pub end-u64-unique :
-    (a : _) (r₁ r₂ : ℕ) (s₁ s₂ : _) → end-u64.Post (tt {0}) a r₁ s₁ → end-u64.Post (tt {0}) a r₂ s₂ → r₁ ≡ r₂
-end-u64-unique a r₁ r₂ s₁ s₂ p q = p ∙ sym q
-
-pub is-valid-unique :
-    (a : _) (r₁ r₂ : Bool) (s₁ s₂ : _) → is-valid.Post (tt {0}) a r₁ s₁ → is-valid.Post (tt {0}) a r₂ s₂ → r₁ ≡ r₂
-is-valid-unique a r₁ r₂ s₁ s₂ p q = p ∙ sym q
-
-pub overlaps-unique :
-    (a : _) (r₁ r₂ : Bool) (s₁ s₂ : _) → overlaps.Post (tt {0}) a r₁ s₁ → overlaps.Post (tt {0}) a r₂ s₂ → r₁ ≡ r₂
-overlaps-unique a r₁ r₂ s₁ s₂ p q = p ∙ sym q
 
 pub init-unique :
     (a : _) (r₁ r₂ : MemDomain) (s₁ s₂ : _) → init.Post (tt {0}) a r₁ s₁ → init.Post (tt {0}) a r₂ s₂ → r₁ ≡ r₂
@@ -62,11 +45,3 @@ has-free-slot-unique a r₁ r₂ s₁ s₂ p q = p ∙ sym q
 pub contains-addr-unique :
     (a : _) (r₁ r₂ : Bool) (s₁ s₂ : _) → contains-addr.Post (tt {0}) a r₁ s₁ → contains-addr.Post (tt {0}) a r₂ s₂ → r₁ ≡ r₂
 contains-addr-unique a r₁ r₂ s₁ s₂ p q = p ∙ sym q
-
-pub partition-valid-decide-unique :
-    (a : _) (r₁ r₂ : Bool) (s₁ s₂ : _) → partition-valid-decide.Post (tt {0}) a r₁ s₁ → partition-valid-decide.Post (tt {0}) a r₂ s₂ → r₁ ≡ r₂
-partition-valid-decide-unique a r₁ r₂ s₁ s₂ p q = p ∙ sym q
-
-pub partitions-overlap-decide-unique :
-    (a : _) (r₁ r₂ : Bool) (s₁ s₂ : _) → partitions-overlap-decide.Post (tt {0}) a r₁ s₁ → partitions-overlap-decide.Post (tt {0}) a r₂ s₂ → r₁ ≡ r₂
-partitions-overlap-decide-unique a r₁ r₂ s₁ s₂ p q = p ∙ sym q

@@ -13,16 +13,16 @@ use lib.Seq.{set-set, set-getD}
 use borrow.Author.Tests.{lt-ltb, le-leb, eq-eqb, ne-eqb, ltb-true, eqb-true}
 use Rattle.answer.specs.Answer.{numberOf}
 use Rattle.answer.specs.declared.Code.the-variants.{Ok, Einval, Enospc, Enoent}
-use Rattle.mem_domain.specs.Partition.{empty, endOf, isValid, overlapOf, meets, isFree, isActive, holds}
+use Rattle.mem_partition.specs.Partition.{empty, endOf, isValid, overlapOf, meets, isFree, isActive, holds}
 use Rattle.mem_domain.specs.Domain.{slotAt, activeCount, addable, freeAt, lowestFree, hasFree, lowestWindow, hasWindow, holdsAt, containsAddr, noPartitions, refused, changedAt, added, removed, gotSlot, gotten}
 use Rattle.mem_domain.specs.Scan.{lowest}
 use Rattle.mem_domain.specs.Upstream.{Inv, Counted, Clean}
-use Rattle.mem_domain.specs.declared.MemPartition.{MemPartition}
+use Rattle.mem_partition.specs.declared.MemPartition.{MemPartition}
 use Rattle.mem_domain.specs.declared.MemDomain.{MemDomain}
 use Rattle.mem_domain.specs.declared.Changed.{Changed}
-use Rattle.mem_domain.proofs.Tests.{and-left, and-right}
+use Rattle.mem_partition.proofs.Tests.{and-left, and-right}
 use Rattle.mem_domain.proofs.Scan.{any-at, any-hit, count-zero}
-use Rattle.mem_domain.proofs.Partition.{valid-size, valid-end, overlap-sym, apart-disjoint, active-size, size-active, active-holds}
+use Rattle.mem_partition.proofs.Partition.{valid-size, valid-end, overlap-sym, apart-disjoint, active-size, size-active, active-holds}
 use Rattle.mem_domain.proofs.Domain.{added-bad, added-full, added-ok, add-accepts, add-stores, removed-zero, removed-none, removed-ok, remove-matches, remove-frees, gotten-out, gotten-free, gotten-ok, has-window}
 use Rattle.mem_domain.proofs.Slots.{free-below, free-free, window-below, window-size, addable-valid, addable-apart, active-le, free-active, full-active, slot-same, slot-other, active-gain, active-loss, active-kept, window-again}
 

@@ -8,8 +8,8 @@ use lib.ListN.{getD, set, replicate}
 use Rattle.answer.specs.Answer.{numberOf}
 use Rattle.answer.specs.declared.Code.the-variants.{Ok, Einval, Enospc, Enoent}
 use Rattle.mem_domain.specs.Scan.{countTo, lowest, anyTo}
-use Rattle.mem_domain.specs.Partition.{empty, isValid, meets, overlapOf, isFree, isActive, holds, isWindow}
-use Rattle.mem_domain.specs.declared.MemPartition.{MemPartition}
+use Rattle.mem_partition.specs.Partition.{empty, isValid, meets, overlapOf, isFree, isActive, holds, isWindow}
+use Rattle.mem_partition.specs.declared.MemPartition.{MemPartition}
 use Rattle.mem_domain.specs.declared.MemDomain.{MemDomain}
 use Rattle.mem_domain.specs.declared.Changed.{Changed}
 use Rattle.mem_domain.specs.declared.Got.{Got}

@@ -1,4 +1,3 @@
 pub mod Scan
-pub mod Partition
 pub mod Domain
 pub mod Upstream

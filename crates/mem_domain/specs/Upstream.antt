@@ -3,7 +3,7 @@ use Prim.Native.Nat.{ℕ, _≤_, _<_}
 use mathlib.Core.Path.{_≡_}
 use mathlib.Core.Bool.{true, false}
 use lib.ListN.{length}
-use Rattle.mem_domain.specs.Partition.{empty, isValid, overlapOf, isFree}
+use Rattle.mem_partition.specs.Partition.{empty, isValid, overlapOf, isFree}
 use Rattle.mem_domain.specs.Domain.{slotAt, activeCount}
 use Rattle.mem_domain.specs.declared.MemDomain.{MemDomain}
 

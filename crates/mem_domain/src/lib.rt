@@ -4,20 +4,14 @@
 ghost use mathlib.Core.Path.{_≡_};
 ghost use mathlib.Core.Bool.{_&&_};
 ghost use Prim.Native.Nat.{_<_};
-ghost use Rattle.mem_domain.specs.Partition.{windowOf, endOf, isValid, overlapOf, isActive, meets, holds, isWindow};
+ghost use Rattle.mem_partition.specs.Partition.{isActive, meets as meets·spec, holds, isWindow};
 ghost use Rattle.mem_domain.specs.Domain.{slots, activeCount, withCount, crossed, addable, lowestFree, hasFree, lowestWindow, containsAddr, noPartitions, refused, changedAt, added, removed, gotNothing, gotten};
+use mem_partition::MemPartition;
 
 // Upstream's limit, and the same as a number of places.
 pub const MAX_PARTITIONS: u32 = 16;
 
 const SLOTS: usize = MAX_PARTITIONS as usize;
-
-// A window of addresses and its rights. Size 0 marks a free slot.
-pub struct MemPartition {
-    pub start: u32,
-    pub size: u32,
-    pub attr: u32,
-}
 
 // By value: a function that changes a domain hands it back.
 pub struct MemDomain {
@@ -40,67 +34,39 @@ pub struct Got {
     pub attr: u32,
 }
 
-impl MemPartition {
-    // The end is worked wide, so that it never wraps.
-    pub fn end_u64(self) -> u64
-        ensures { λ r. ⌜ r ≡ endOf self ⌝ }
-    {
-        let sum = self.start as u64 + self.size as u64;
-        sum
+// Active, and overlapping a window from start up to, and without, end.
+fn meets(p: MemPartition, start: u32, end: u32) -> bool
+    ensures { λ r. ⌜ r ≡ isActive p && meets·spec start end p ⌝ }
+{
+    if p.size == 0 {
+        return false;
     }
+    if p.start >= end {
+        return false;
+    }
+    (start as u64) < p.end_u64()
+}
 
-    pub fn is_valid(self) -> bool
-        ensures { λ r. ⌜ r ≡ isValid self ⌝ }
-    {
-        if self.size > 0 {
-            return self.end_u64() <= 4294967295;
-        }
-        false
+// Active, and the address is from the start on and before the end.
+fn covers(p: MemPartition, addr: u32) -> bool
+    ensures { λ r. ⌜ r ≡ isActive p && holds p addr ⌝ }
+{
+    if p.size == 0 {
+        return false;
     }
+    if addr < p.start {
+        return false;
+    }
+    (addr as u64) < p.end_u64()
+}
 
-    pub fn overlaps(self, other: MemPartition) -> bool
-        ensures { λ r. ⌜ r ≡ overlapOf self other ⌝ }
-    {
-        if self.end_u64() <= other.start as u64 {
-            return false;
-        }
-        (self.start as u64) < other.end_u64()
+fn is_window(p: MemPartition, start: u32, size: u32) -> bool
+    ensures { λ r. ⌜ r ≡ isWindow start size p ⌝ }
+{
+    if p.start != start {
+        return false;
     }
-
-    // Active, and overlapping a window from start up to, and without, end.
-    fn meets(self, start: u32, end: u32) -> bool
-        ensures { λ r. ⌜ r ≡ isActive self && meets start end self ⌝ }
-    {
-        if self.size == 0 {
-            return false;
-        }
-        if self.start >= end {
-            return false;
-        }
-        (start as u64) < self.end_u64()
-    }
-
-    // Active, and the address is from the start on and before the end.
-    fn covers(self, addr: u32) -> bool
-        ensures { λ r. ⌜ r ≡ isActive self && holds self addr ⌝ }
-    {
-        if self.size == 0 {
-            return false;
-        }
-        if addr < self.start {
-            return false;
-        }
-        (addr as u64) < self.end_u64()
-    }
-
-    fn is_window(self, start: u32, size: u32) -> bool
-        ensures { λ r. ⌜ r ≡ isWindow start size self ⌝ }
-    {
-        if self.start != start {
-            return false;
-        }
-        self.size == size
-    }
+    p.size == size
 }
 
 impl MemDomain {
@@ -197,7 +163,7 @@ impl MemDomain {
         let mut k = 0;
         while k < SLOTS {
             let p = self.partitions[k];
-            if p.covers(addr) {
+            if covers(p, addr) {
                 return true;
             }
             k += 1;
@@ -222,7 +188,7 @@ impl MemDomain {
         let mut k = 0;
         while k < SLOTS {
             let p = self.partitions[k];
-            if p.meets(start, end) {
+            if meets(p, start, end) {
                 return true;
             }
             k += 1;
@@ -250,7 +216,7 @@ impl MemDomain {
         let mut at = 0;
         while at < SLOTS {
             let p = self.partitions[at];
-            if p.is_window(start, size) {
+            if is_window(p, start, size) {
                 return at;
             }
             at += 1;
@@ -314,36 +280,4 @@ fn got_nothing(code: u32) -> Got
         size: 0,
         attr: 0,
     }
-}
-
-pub fn partition_valid_decide(start: u32, size: u32) -> bool
-    ensures { λ r. ⌜ r ≡ isValid (windowOf start size) ⌝ }
-{
-    let p = MemPartition {
-        start,
-        size,
-        attr: 0,
-    };
-    p.is_valid()
-}
-
-pub fn partitions_overlap_decide(
-    part_start: u32,
-    part_size: u32,
-    existing_start: u32,
-    existing_size: u32,
-) -> bool
-    ensures { λ r. ⌜ r ≡ overlapOf (windowOf «part_start» «part_size») (windowOf «existing_start» «existing_size») ⌝ }
-{
-    let p = MemPartition {
-        start: part_start,
-        size: part_size,
-        attr: 0,
-    };
-    let e = MemPartition {
-        start: existing_start,
-        size: existing_size,
-        attr: 0,
-    };
-    p.overlaps(e)
 }

@@ -6,9 +6,9 @@ use mathlib.Core.Bool.{Bool, true, false, _&&_, _||_}
 use mathlib.Core.Logic.{⊎-elim, _⊎_, inl, inr}
 use borrow.Author.Tests.{lt-leb, leb-false, eqb-true, eq-eqb}
 use lib.Dec.{leb, eqb}
-use Rattle.mem_domain.specs.Partition.{endOf, isActive, holds}
+use Rattle.mem_partition.specs.Partition.{endOf, isActive, holds}
 use Rattle.mem_domain.specs.Domain.{slots, slotAt}
-use Rattle.mem_domain.specs.declared.MemPartition.{MemPartition}
+use Rattle.mem_partition.specs.declared.MemPartition.{MemPartition}
 use Rattle.mpu.specs.Mpu.{baseOf, topOf, rbarAt, rasrAt, regionsOf, regionHolds, rightsOfPlan, rightsOfDomain, agreeAt, addresses, sameRights}
 use Rattle.mpu.specs.Edges.{edgeAgrees, endsAgree, slotsTo, regionsTo, edgesAgree}
 use Rattle.domain_rules.proofs.All.{all-at, all-from, all-fails, both-true}

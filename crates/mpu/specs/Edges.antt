@@ -5,7 +5,7 @@ use mathlib.Core.Bool.{Bool, _&&_, _||_}
 use mathlib.Core.List.{List}
 use lib.Dec.{leb}
 use Rattle.mem_domain.specs.Domain.{slots, slotAt}
-use Rattle.mem_domain.specs.declared.MemPartition.{MemPartition}
+use Rattle.mem_partition.specs.declared.MemPartition.{MemPartition}
 use Rattle.domain_rules.specs.Scan.{allTo}
 use Rattle.mpu.specs.Mpu.{agreeAt, addresses, baseOf, sizeOf, rbarAt, rasrAt, regionsOf}
 

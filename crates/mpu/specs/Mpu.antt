@@ -10,7 +10,7 @@ use Rattle.answer.specs.declared.Answer.{Answer}
 use Rattle.answer.specs.declared.Code.{Code}
 use Rattle.answer.specs.declared.Code.the-variants.{Ok, Value, Differs}
 use Rattle.mem_domain.specs.Domain.{slots, slotAt, holdsAt}
-use Rattle.mem_domain.specs.declared.MemPartition.{MemPartition}
+use Rattle.mem_partition.specs.declared.MemPartition.{MemPartition}
 use Rattle.mem_domain.specs.declared.MemDomain.{MemDomain}
 use Rattle.mpu.specs.Table.{lastOf}
 use Rattle.domain_rules.specs.Scan.{allTo}

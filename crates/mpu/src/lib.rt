@@ -6,14 +6,14 @@ ghost use mathlib.Core.Bool.{not, _&&_};
 ghost use Prim.Native.Nat.{_+_, _/_, _^_, _<_, _≤_};
 ghost use lib.Dec.{eqb};
 ghost use lib.ListN.{length};
-ghost use Rattle.mem_domain.specs.Partition.{isActive, holds};
+ghost use Rattle.mem_partition.specs.Partition.{isActive, holds};
 ghost use Rattle.mem_domain.specs.Domain.{activeCount};
 ghost use Rattle.domain_rules.specs.Sound.{domainSound};
 ghost use Rattle.mpu.specs.Mpu.{baseOf, sizeOf, within, apRights, withExecute, regionRights, regionHolds, placeOk, reservedOk, regionOk, rbarAt, rasrAt, regionsOf, planOk, rightsOfPlan, rightsOfDomain, numbered, checked};
 ghost use Rattle.mpu.specs.Edges.{edgeAgrees, endsAgree, slotsTo, regionsTo, edgesAgree};
 use answer::Answer;
 use mem_domain::MemDomain;
-use mem_domain::MemPartition;
+use mem_partition::MemPartition;
 
 const SLOTS: usize = mem_domain::MAX_PARTITIONS as usize;
 

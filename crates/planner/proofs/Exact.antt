@@ -12,9 +12,9 @@ use lib.Seq.{take-at}
 use Rattle.answer.specs.Answer.{numberOf}
 use Rattle.answer.specs.declared.Answer.{Answer}
 use Rattle.answer.specs.declared.Code.the-variants.{Ok, Einval, Value, Noplan, Room}
-use Rattle.mem_domain.specs.Partition.{isFree}
+use Rattle.mem_partition.specs.Partition.{isFree}
 use Rattle.mem_domain.specs.Domain.{slotAt, activeCount}
-use Rattle.mem_domain.specs.declared.MemPartition.{MemPartition}
+use Rattle.mem_partition.specs.declared.MemPartition.{MemPartition}
 use Rattle.mem_domain.specs.declared.MemDomain.{MemDomain}
 use Rattle.domain_rules.specs.Sound.{domainSound}
 use Rattle.mpu.specs.Mpu.{plain, checked}

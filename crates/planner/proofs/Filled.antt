@@ -13,9 +13,9 @@ use lib.Pow.{pow-add}
 use lib.ListN.{length, drop, set, length-append}
 use lib.Seq.{drop-cons, set-at, append-snoc}
 use Rattle.mem_domain.specs.Scan.{countTo}
-use Rattle.mem_domain.specs.Partition.{isActive}
+use Rattle.mem_partition.specs.Partition.{isActive}
 use Rattle.mem_domain.specs.Domain.{slots, slotAt, activeTo, activeCount}
-use Rattle.mem_domain.specs.declared.MemPartition.{MemPartition}
+use Rattle.mem_partition.specs.declared.MemPartition.{MemPartition}
 use Rattle.mem_domain.specs.declared.MemDomain.{MemDomain}
 use Rattle.mem_domain.proofs.Scan.{count-le}
 use Rattle.domain_rules.specs.Sound.{slotsSound, domainSound}

@@ -13,9 +13,9 @@ use lib.ListN.{length, List·getD-append}
 use lib.Seq.{getD-append-add, getD-at}
 use Rattle.answer.specs.declared.Code.the-variants.{Ok}
 use Rattle.mem_domain.specs.Scan.{countTo}
-use Rattle.mem_domain.specs.Partition.{isActive, isValid, holds}
+use Rattle.mem_partition.specs.Partition.{isActive, isValid, holds}
 use Rattle.mem_domain.specs.Domain.{slotAt, activeTo, activeCount}
-use Rattle.mem_domain.specs.declared.MemPartition.{MemPartition}
+use Rattle.mem_partition.specs.declared.MemPartition.{MemPartition}
 use Rattle.mem_domain.specs.declared.MemDomain.{MemDomain}
 use Rattle.mpu.specs.Table.{lastOf}
 use Rattle.domain_rules.specs.Scan.{allTo}

@@ -8,9 +8,9 @@ use lib.ListN.{replicate}
 use borrow.Author.Tests.{eqb-false}
 use Rattle.answer.specs.declared.Code.the-variants.{Ok, Differs}
 use Rattle.mem_domain.specs.Scan.{countTo}
-use Rattle.mem_domain.specs.Partition.{empty, isValid, meets, overlapOf, holds}
+use Rattle.mem_partition.specs.Partition.{empty, isValid, meets, overlapOf, holds}
 use Rattle.mem_domain.specs.Domain.{activeCount}
-use Rattle.mem_domain.specs.declared.MemPartition.{MemPartition}
+use Rattle.mem_partition.specs.declared.MemPartition.{MemPartition}
 use Rattle.mem_domain.specs.declared.MemDomain.{MemDomain}
 use Rattle.mpu.specs.Table.{lastOf}
 use Rattle.domain_rules.specs.Scan.{allTo}

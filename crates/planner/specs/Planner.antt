@@ -8,9 +8,9 @@ use lib.ListN.{length, drop, set}
 use Rattle.answer.specs.Answer.{numberOf}
 use Rattle.answer.specs.declared.Answer.{Answer}
 use Rattle.answer.specs.declared.Code.the-variants.{Ok, Einval, Value, Noplan, Room}
-use Rattle.mem_domain.specs.Partition.{isFree, isActive}
+use Rattle.mem_partition.specs.Partition.{isFree, isActive}
 use Rattle.mem_domain.specs.Domain.{slots, slotAt, activeTo, activeCount}
-use Rattle.mem_domain.specs.declared.MemPartition.{MemPartition}
+use Rattle.mem_partition.specs.declared.MemPartition.{MemPartition}
 use Rattle.mem_domain.specs.declared.MemDomain.{MemDomain}
 use Rattle.mpu.specs.Table.{lastOf}
 use Rattle.domain_rules.specs.Scan.{allTo}

@@ -6,12 +6,12 @@ ghost use mathlib.Core.Bool.{true};
 ghost use mathlib.Core.List.{_++_};
 ghost use Prim.Native.Nat.{_+_, _*_, _%_, _^_, _<_, _≤_};
 ghost use lib.ListN.{length, set, drop};
-ghost use Rattle.mem_domain.specs.Partition.{isActive};
+ghost use Rattle.mem_partition.specs.Partition.{isActive};
 ghost use Rattle.mpu.specs.Mpu.{numbered};
 ghost use Rattle.planner.specs.Planner.{fieldFor, isRegion, rbarFor, xnFor, apFor, rasrFor, slotFits, slotsFit, nextRegion, putSlot, planOf, wordCount, Planned};
 use answer::Answer;
 use mem_domain::MemDomain;
-use mem_domain::MemPartition;
+use mem_partition::MemPartition;
 
 const SLOTS: usize = mem_domain::MAX_PARTITIONS as usize;
 

@@ -10,7 +10,7 @@ use mathlib.Core.List.{List}
 use lib.Bits.{bitAnd}
 use lib.Dec.{eqb}
 use borrow.Author.Tests.{eqb-true, eq-eqb}
-use Rattle.userspace.specs.Bit.{bitOf, isSet, setBit, bit-lt, bit-and, bit-ext, set-same, set-other, zero-bit}
+use Rattle.bits.specs.Bit.{bitOf, isSet, setBit, bit-lt, bit-and, bit-ext, set-same, set-other, zero-bit}
 use Rattle.tables.specs.Table.{threadAt}
 use Rattle.rules.specs.Rules.{isLive, liveTo}
 

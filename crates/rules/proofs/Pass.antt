@@ -13,7 +13,7 @@ use lib.Seq.{getD-set-same, getD-set-other}
 use borrow.Author.Tests.{eqb-true, eqb-false, eq-eqb, ne-eqb, not-true, not-false}
 use Rattle.domain_rules.specs.Scan.{allTo}
 use Rattle.domain_rules.proofs.All.{both, all-step, all-fails, all-none, all-more, isnt-true}
-use Rattle.userspace.specs.Bit.{bitOf, isSet, setBit, set-same, set-other, zero-bit}
+use Rattle.bits.specs.Bit.{bitOf, isSet, setBit, set-same, set-other, zero-bit}
 use Rattle.userspace.specs.Userspace.{THREADS}
 use Rattle.tables.specs.declared.Thread.{Thread}
 use Rattle.rules.specs.declared.Judged.{Judged}

@@ -15,7 +15,7 @@ use Rattle.mem_domain.specs.Domain.{slots as SLOTS}
 use Rattle.domain_rules.specs.Sound.{SlotsKeep, slotsSound, domainSound}
 use Rattle.domain_rules.proofs.All.{both-true, both, either-true, or-left, or-right, isnt-true, all-at, all-from}
 use Rattle.domain_rules.proofs.Sound.{slots-keep, slots-sound, counted-sound}
-use Rattle.userspace.specs.Bit.{isSet}
+use Rattle.bits.specs.Bit.{isSet}
 use Rattle.userspace.specs.Userspace.{THREADS}
 use Rattle.userspace.specs.declared.KernelObject.{KernelObject}
 use Rattle.tables.specs.declared.Thread.{Thread}

@@ -4,7 +4,7 @@ use native.Mathlib.Omega.{arith}
 use mathlib.Core.Path.{_≡_, refl, sym, ap, _∙_}
 use mathlib.Core.Bool.{Bool, _&&_}
 use mathlib.Core.List.{List}
-use Rattle.mem_domain.specs.Partition.{empty}
+use Rattle.mem_partition.specs.Partition.{empty}
 use Rattle.mem_domain.specs.Domain.{slotAt}
 use Rattle.mem_domain.specs.Domain.{slots as SLOTS}
 use Rattle.domain_rules.specs.Scan.{allTo}

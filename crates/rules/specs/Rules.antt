@@ -11,8 +11,8 @@ use lib.ListN.{length, getD, set}
 use Rattle.domain_rules.specs.Scan.{allTo}
 use Rattle.mem_domain.specs.Domain.{slots as SLOTS}
 use Rattle.domain_rules.specs.Sound.{SlotsKeep, slotOk, apartOf, slotsSound}
-use Rattle.mem_domain.specs.declared.MemPartition.{MemPartition}
-use Rattle.userspace.specs.Bit.{isSet, setBit}
+use Rattle.mem_partition.specs.declared.MemPartition.{MemPartition}
+use Rattle.bits.specs.Bit.{isSet, setBit}
 use Rattle.userspace.specs.Userspace.{THREADS}
 use Rattle.tables.specs.declared.Thread.{Thread}
 use Rattle.rules.specs.declared.Judged.{Judged}

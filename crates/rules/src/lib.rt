@@ -11,7 +11,7 @@ ghost use Rattle.domain_rules.specs.Sound.{slotsSound};
 ghost use Rattle.tables.specs.Table.{DOMAINS as DOMAINS·spec};
 ghost use Rattle.tables.specs.Table.{partitionAt, partitionsAt};
 ghost use Rattle.rules.specs.Rules.{isServed, serving, threadOk, judgedThreads, objectOk, objectAtOk, clearTo, slotFine, domainsSound, keepsTest};
-use mem_domain::MemPartition;
+use mem_partition::MemPartition;
 use tables::DOMAINS;
 use tables::HANDLES;
 use tables::OBJECT_NUMBERS;
@@ -65,7 +65,7 @@ fn thread_ok(objects: &[u64], r: Thread) -> bool
     }
     if home_ok(r.domain) {
         if r.handle < HANDLES {
-            let o = tables::load_object(objects, r.handle);
+            let o = object_table::load_object(objects, r.handle);
             return o.obj_type == 1;
         }
     }

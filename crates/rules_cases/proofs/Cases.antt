@@ -8,8 +8,8 @@ use lib.ListN.{set, take, replicate}
 use lib.Seq.{sets}
 use Rattle.domain_rules.specs.Scan.{allTo}
 use Rattle.domain_rules.specs.Sound.{slotsSound, slotSound, slotOk, apartOf, attrOk}
-use Rattle.mem_domain.specs.Partition.{isValid, meets, overlapOf}
-use Rattle.userspace.specs.Bit.{setBit}
+use Rattle.mem_partition.specs.Partition.{isValid, meets, overlapOf}
+use Rattle.bits.specs.Bit.{setBit}
 use Rattle.tables.specs.Tabulate.{tabulate}
 use Rattle.tables.specs.Table.{objectAt, threadAt, partitionAt, partitionsAt}
 use Rattle.rules.specs.Rules.{Sound, keepsTest, liveTo, objectOk, threadOk, threadSound, domainsSound}

@@ -1,26 +1,15 @@
 -- Two results that meet a function's own contract are equal, and so is what stands behind each `&mut` as it returns.
 use mathlib.Core.Path.{_≡_, sym, _∙_}
 use denote.Ref.{now}
-use Rattle.userspace.specs.declared.KernelObject.{KernelObject}
-use Rattle.mem_domain.specs.declared.MemPartition.{MemPartition}
+use Rattle.mem_partition.specs.declared.MemPartition.{MemPartition}
 use Rattle.mem_domain.specs.declared.MemDomain.{MemDomain}
 use Rattle.tables.specs.declared.Thread.{Thread}
-use Rattle.tables.proofs.load_object.Reads as load-object
-use Rattle.tables.proofs.store_object.Reads as store-object
 use Rattle.tables.proofs.load_thread.Reads as load-thread
 use Rattle.tables.proofs.store_thread.Reads as store-thread
 use Rattle.tables.proofs.load_slot.Reads as load-slot
 use Rattle.tables.proofs.store_slot.Reads as store-slot
 use Rattle.tables.proofs.load_domain.Reads as load-domain
 use Rattle.tables.proofs.store_domain.Reads as store-domain
-
-pub load-object-unique :
-    (κs : _) (a : _) (r₁ r₂ : KernelObject) (s₁ s₂ : _) → load-object.Post κs a r₁ s₁ → load-object.Post κs a r₂ s₂ → r₁ ≡ r₂
-load-object-unique κs a r₁ r₂ s₁ s₂ p q = p ∙ sym q
-
-pub store-object-unique :
-    (κs : _) (a : _) (r₁ r₂ : _) (s₁ s₂ : _) → store-object.Post κs a r₁ s₁ → store-object.Post κs a r₂ s₂ → now (s₁ .0) ≡ now (s₂ .0)
-store-object-unique κs a r₁ r₂ s₁ s₂ p q = p ∙ sym q
 
 pub load-thread-unique :
     (κs : _) (a : _) (r₁ r₂ : Thread) (s₁ s₂ : _) → load-thread.Post κs a r₁ s₁ → load-thread.Post κs a r₂ s₂ → r₁ ≡ r₂

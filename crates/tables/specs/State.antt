@@ -9,7 +9,7 @@ use mathlib.Core.List.{List, [], _∷_, _++_}
 use native.Mathlib.Omega.{arith}
 use lib.ListN.{length, getD, set}
 use Rattle.mem_domain.specs.Domain.{slots as SLOTS}
-use Rattle.mem_domain.specs.declared.MemPartition.{MemPartition}
+use Rattle.mem_partition.specs.declared.MemPartition.{MemPartition}
 use Rattle.userspace.specs.Userspace.{THREADS}
 use Rattle.userspace.specs.declared.KernelObject.{KernelObject}
 use Rattle.tables.specs.declared.Thread.{Thread}

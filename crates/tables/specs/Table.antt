@@ -8,10 +8,10 @@ use mathlib.Core.List.{List, [], _∷_}
 use lib.Dec.{ltb}
 use lib.ListN.{getD}
 use lib.Seq.{sets}
-use Rattle.mem_domain.specs.Partition.{empty}
+use Rattle.mem_partition.specs.Partition.{empty}
 use Rattle.mem_domain.specs.Domain.{withCount}
 use Rattle.mem_domain.specs.Domain.{slots as SLOTS}
-use Rattle.mem_domain.specs.declared.MemPartition.{MemPartition}
+use Rattle.mem_partition.specs.declared.MemPartition.{MemPartition}
 use Rattle.mem_domain.specs.declared.MemDomain.{MemDomain}
 use Rattle.userspace.specs.declared.KernelObject.{KernelObject}
 use Rattle.tables.specs.declared.Thread.{Thread}

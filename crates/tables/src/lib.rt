@@ -1,13 +1,13 @@
-// The state: three tables of numbers that the caller lends, and the records in them.
+// The state: three tables of numbers that the caller lends, and the records in them: what stands where in all three (specs/), and the accessors of
+// threads, slots and domains; those of objects are the crate object_table.
 // Every accessor is total: behind a table's end a load gives the all-zero record and a store does nothing, so nobody above has to be careful.
 // What stands above speaks of records and of `State` (specs/State.antt) and never of an offset.
 ghost use mathlib.Core.Path.{_≡_};
 ghost use Prim.Native.Nat.{_<_, _^_};
 ghost use lib.ListN.{getD, set};
-ghost use Rattle.tables.specs.Table.{objectAt, putObject, threadAt, putThread, partitionAt, putPartition, slotAt, putSlot, partitionsAt, domainAt, putDomain};
+ghost use Rattle.tables.specs.Table.{threadAt, putThread, partitionAt, putPartition, slotAt, putSlot, partitionsAt, domainAt, putDomain};
 use mem_domain::MemDomain;
-use mem_domain::MemPartition;
-use userspace::KernelObject;
+use mem_partition::MemPartition;
 
 // The limits: threads and slots are the leaves' own, handles and domains are named here.
 pub const THREADS: u32 = userspace::MAX_THREADS;
@@ -32,20 +32,6 @@ pub struct Thread {
     pub handle: u32,
 }
 
-fn at64(xs: &[u64], i: usize) -> u64
-    ensures { λ r. ⌜ r ≡ getD (now (xs .entry)) i 0 ⌝ }
-{
-    if i < xs.len() { xs[i] } else { 0 }
-}
-
-fn put64(xs: &mut [u64], i: usize, v: u64)
-    ensures { λ _. ⌜ now (xs .exit) ≡ set (now (xs .entry)) i v ⌝ }
-{
-    if i < xs.len() {
-        xs[i] = v;
-    }
-}
-
 fn at32(xs: &[u32], i: usize) -> u32
     ensures { λ r. ⌜ r ≡ getD (now (xs .entry)) i 0 ⌝ }
 {
@@ -58,27 +44,6 @@ fn put32(xs: &mut [u32], i: usize, v: u32)
     if i < xs.len() {
         xs[i] = v;
     }
-}
-
-pub fn load_object(objects: &[u64], h: u32) -> KernelObject
-    ensures { λ r. ⌜ r ≡ objectAt (now (objects .entry)) h ⌝ }
-{
-    let i = 2 * (h as usize);
-    let head = at64(objects, i);
-    let word = at64(objects, i + 1);
-    KernelObject {
-        obj_type: (head % 256) as u8,
-        flags: (head / 256 % 256) as u8,
-        word,
-    }
-}
-
-pub fn store_object(objects: &mut [u64], h: u32, o: KernelObject)
-    ensures { λ _. ⌜ now (objects .exit) ≡ putObject (now (objects .entry)) h o ⌝ }
-{
-    let i = 2 * (h as usize);
-    put64(objects, i, o.obj_type as u64 + 256 * (o.flags as u64));
-    put64(objects, i + 1, o.word);
 }
 
 pub fn load_thread(threads: &[u32], t: u32) -> Thread

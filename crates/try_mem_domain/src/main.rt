@@ -4,7 +4,7 @@ ghost use Prim.Native.Nat.{_<_};
 use libc::STDOUT_FILENO;
 use mem_domain::Changed;
 use mem_domain::MemDomain;
-use mem_domain::MemPartition;
+use mem_partition::MemPartition;
 
 fn main() {
     let mut cases = io::large_buffer();
@@ -95,9 +95,9 @@ fn windows(d: MemDomain, p: MemPartition, q: MemPartition) -> MemDomain {
     io::print_decimal(STDOUT_FILENO, p.end_u64());
     word(b" ");
     truth(p.is_valid());
-    truth(mem_domain::partition_valid_decide(p.start, p.size));
+    truth(mem_partition::partition_valid_decide(p.start, p.size));
     truth(p.overlaps(q));
-    truth(mem_domain::partitions_overlap_decide(p.start, p.size, q.start, q.size));
+    truth(mem_partition::partitions_overlap_decide(p.start, p.size, q.start, q.size));
     word(b"\n");
     d
 }

@@ -5,7 +5,7 @@ ghost use Prim.Native.Nat.{_<_};
 use answer::Answer;
 use libc::STDOUT_FILENO;
 use mem_domain::MemDomain;
-use mem_domain::MemPartition;
+use mem_partition::MemPartition;
 
 // What a case has in bytes, and the most cases that are read.
 const CASE: usize = 344;

@@ -2,7 +2,7 @@
 // little-endian words to a step: its number, a place, and two words of a value. tests/tables.py makes it, and works out `stdout` by a model.
 ghost use Prim.Native.Nat.{_+_, _<_, _≤_};
 use libc::STDOUT_FILENO;
-use mem_domain::MemPartition;
+use mem_partition::MemPartition;
 use tables::Thread;
 use userspace::KernelObject;
 
@@ -88,7 +88,7 @@ fn judge(objects: &[u64], threads: &[u32], slots: &[u32], a: u32, b: u32, c: u32
 }
 
 fn show_object(objects: &[u64], h: u32) {
-    let o = tables::load_object(objects, h);
+    let o = object_table::load_object(objects, h);
     figure(o.obj_type as u64);
     figure(o.flags as u64);
     figure(o.word);
@@ -123,7 +123,7 @@ fn store_object(objects: &mut [u64], h: u32, b: u32, c: u32) {
         flags: (b / 256 % 256) as u8,
         word: c as u64,
     };
-    tables::store_object(objects, h, o);
+    object_table::store_object(objects, h, o);
 }
 
 fn store_thread(threads: &mut [u32], t: u32, b: u32, c: u32) {

@@ -3,11 +3,11 @@
 // out `stdout` by a model that keeps a list of 64 yes or no, as upstream does.
 use libc::STDOUT_FILENO;
 use userspace::Changed;
-use userspace::InitCheck;
 use userspace::KernelObject;
-use userspace::NamedCheck;
-use userspace::NamedType;
-use userspace::Validated;
+use userspace_decide::Validated;
+use userspace_names::InitCheck;
+use userspace_names::NamedCheck;
+use userspace_names::NamedType;
 
 fn main() {
     let mut cases = io::large_buffer();
@@ -119,24 +119,24 @@ fn decides(a: u8, b: u8, c: u8) {
     let x = a % 2 == 1;
     let y = a / 2 % 2 == 1;
     let z = a / 4 % 2 == 1;
-    truth(userspace::access_decide(x, y));
-    verdict(userspace::validate_decide(x, y, z, mode(c)));
-    small(userspace::init_flags_decide(b));
-    small(userspace::uninit_flags_decide(b));
-    small(userspace::recycle_flags_decide(b));
-    small(userspace::make_public_flags_decide(b));
+    truth(userspace_decide::access_decide(x, y));
+    verdict(userspace_decide::validate_decide(x, y, z, mode(c)));
+    small(userspace_decide::init_flags_decide(b));
+    small(userspace_decide::uninit_flags_decide(b));
+    small(userspace_decide::recycle_flags_decide(b));
+    small(userspace_decide::make_public_flags_decide(b));
     word(b"\n");
 }
 
 // The number of the type that n names, and of the mode that c stands for.
 fn names(n: u32, c: u8) {
     word(b"name ");
-    match userspace::obj_type_of(n) {
-        NamedType::Is(t) => small(userspace::obj_type_number(t)),
+    match userspace_names::obj_type_of(n) {
+        NamedType::Is(t) => small(userspace_names::obj_type_number(t)),
         NamedType::Nothing => word(b"- "),
     }
-    match userspace::init_check_of(wide_mode(c)) {
-        NamedCheck::Is(k) => signed(userspace::init_check_number(k)),
+    match userspace_names::init_check_of(wide_mode(c)) {
+        NamedCheck::Is(k) => signed(userspace_names::init_check_number(k)),
         NamedCheck::Nothing => word(b"-"),
     }
     word(b"\n");

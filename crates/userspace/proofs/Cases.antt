@@ -5,13 +5,14 @@ use mathlib.Core.Logic.{_≢_, _↔_}
 use mathlib.Core.Bool.{Bool, true, false, not}
 use lib.Dec.{lit<, lit≤}
 use native.Mathlib.Omega.{arith}
-use Rattle.userspace.specs.declared.InitCheck.{InitCheck}
-use Rattle.userspace.specs.declared.InitCheck.the-variants.{MustBeInit, MustNotBeInit, DontCare}
+use Rattle.userspace_names.specs.declared.InitCheck.{InitCheck}
+use Rattle.userspace_names.specs.declared.InitCheck.the-variants.{MustBeInit, MustNotBeInit, DontCare}
 use Rattle.userspace.specs.declared.KernelObject.{KernelObject}
-use Rattle.userspace.specs.declared.Validated.{Validated}
-use Rattle.userspace.specs.declared.Validated.the-variants.{Ok, Refused}
-use Rattle.userspace.specs.Bit.{bitOf, isSet, setBit, clearBit, bit-ext, bit-shr, set-other, clear-other}
-use Rattle.userspace.specs.Userspace.{ALLOC, DRIVER, PUBLIC, initialised, public, holds, access, changedAt, done, refused, newObject, granted, revoked, recycled, typeFits, judged, validated, withWord}
+use Rattle.userspace_decide.specs.declared.Validated.{Validated}
+use Rattle.userspace_decide.specs.declared.Validated.the-variants.{Ok, Refused}
+use Rattle.bits.specs.Bit.{bitOf, isSet, setBit, clearBit, bit-ext, bit-shr, set-other, clear-other}
+use Rattle.userspace_decide.specs.Decide.{ALLOC, DRIVER, PUBLIC, judged}
+use Rattle.userspace.specs.Userspace.{initialised, public, holds, access, changedAt, done, refused, newObject, granted, revoked, recycled, typeFits, validated, withWord}
 use Rattle.userspace.specs.Laws.{either-way}
 use Rattle.userspace.specs.Table.{Op, step}
 use Rattle.userspace.proofs.Upstream.{grant-refuses, grant-does, grant-sets, grant-keeps-flags, revoke-keeps-flags, revoke-keeps-others, recycle-keeps-flags, access-bit}

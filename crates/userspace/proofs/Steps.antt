@@ -1,18 +1,18 @@
 -- What the functions' proofs share: each case split once, over plain values.
-use Prim.Native.Nat.{ℕ, zero, suc}
-use mathlib.Core.Path.{_≡_, refl, sym, ap, _∙_}
+use Prim.Native.Nat.{ℕ}
+use mathlib.Core.Path.{_≡_, refl, ap, _∙_}
 use mathlib.Core.Bool.{Bool, true, false, cond, _&&_}
 use lib.Dec.{ltb, eqb}
-use lib.IntN.{ℤ, pos, negsuc}
-use mir.Syntax.{Width, w8, w32}
-use mir.Val.{SFits, ofZ, toZ}
-use mir.Facts.{toZ-ofZ}
-use Rattle.userspace.specs.Bit.{bitOf, isSet, setBit, clearBit}
-use Rattle.userspace.specs.Userspace.{THREADS, holds, bitAt, withBit, withoutBit, changedAt, done, refused, judged, modeOf, checkNumber, checkNamed}
+use lib.IntN.{ℤ}
+use mir.Syntax.{w8}
+use mir.Val.{ofZ, toZ}
+use Rattle.bits.specs.Bit.{bitOf, isSet, setBit, clearBit}
+use Rattle.userspace_names.specs.Names.{modeOf, checkNumber}
+use Rattle.userspace_decide.specs.Decide.{judged}
+use Rattle.userspace.specs.Userspace.{THREADS, holds, bitAt, withBit, withoutBit, changedAt, done, refused}
 use Rattle.userspace.specs.declared.KernelObject.{KernelObject}
-use Rattle.userspace.specs.declared.InitCheck.{InitCheck}
-use Rattle.userspace.specs.declared.InitCheck.the-variants.{MustBeInit, MustNotBeInit, DontCare}
-use Rattle.userspace.specs.declared.NamedCheck.the-variants as checks
+use Rattle.userspace_names.specs.declared.InitCheck.{InitCheck}
+use Rattle.userspace_names.specs.declared.InitCheck.the-variants.{MustBeInit, MustNotBeInit, DontCare}
 
 -- a test inside its own true case
 inside : {A B : Type 0} (b : Bool) (g : A → B) (x y : A) (z : B) → cond b (g (cond b x y)) z ≡ cond b (g x) z
@@ -37,10 +37,6 @@ pub held : (o : KernelObject) (t : ℕ) → eqb (bitAt (o .word) t) 1 ≡ holds 
 unfolding bitAt holds isSet
 held o t = within (ltb t THREADS) (bitOf (o .word) t)
 
--- a signed number from its bits
-pub signed : (w : Width) (z : ℤ) (n : ℕ) → SFits w z → ofZ w z ≡ n → z ≡ toZ w n
-signed w z n f e = sym (toZ-ofZ f) ∙ ap (toZ w) e
-
 -- a mode is that of its number, also where the number went through eight bits
 number-mode : (c : InitCheck) → modeOf (toZ w8 (ofZ w8 (checkNumber c))) ≡ c
 number-mode MustBeInit = refl
@@ -49,19 +45,6 @@ number-mode DontCare = refl
 
 pub mode-number : (c : InitCheck) (z : ℤ) → z ≡ checkNumber c → modeOf (toZ w8 (ofZ w8 z)) ≡ c
 mode-number c z e = ap (λ (x : ℤ). modeOf (toZ w8 (ofZ w8 x))) e ∙ number-mode c
-
-pub mode-else : (z : ℤ) → (ofZ w8 z ≡ 0 → ⊥) → (ofZ w8 z ≡ 255 → ⊥) → modeOf z ≡ DontCare
-mode-else (pos zero) f g = absurd (f refl)
-mode-else (pos (suc n)) f g = refl
-mode-else (negsuc zero) f g = absurd (g refl)
-mode-else (negsuc (suc n)) f g = refl
-
-pub named-else : (z : ℤ) → (ofZ w32 z ≡ 0 → ⊥) → (ofZ w32 z ≡ 4294967295 → ⊥) → (ofZ w32 z ≡ 1 → ⊥) → checkNamed z ≡ checks.Nothing
-named-else (pos zero) f g h = absurd (f refl)
-named-else (pos (suc zero)) f g h = absurd (h refl)
-named-else (pos (suc (suc n))) f g h = refl
-named-else (negsuc zero) f g h = absurd (g refl)
-named-else (negsuc (suc n)) f g h = refl
 
 -- a judgement of equal parts
 pub same-judged : {f g a b i j : Bool} {c d : InitCheck} → f ≡ g → a ≡ b → i ≡ j → c ≡ d → judged f a i c ≡ judged g b j d

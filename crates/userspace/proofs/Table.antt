@@ -13,13 +13,14 @@ use native.Mathlib.Nat.{not-suc-le-zero, le-of-suc-le-suc, pow-suc}
 use native.Mathlib.Omega.{arith}
 use borrow.Author.Tests.{lt-ltb, le-ltb, lt-leb, le-leb}
 use Rattle.answer.specs.declared.Answer.{Answer}
-use Rattle.userspace.specs.declared.InitCheck.{InitCheck}
-use Rattle.userspace.specs.declared.InitCheck.the-variants.{MustBeInit, MustNotBeInit, DontCare}
+use Rattle.userspace_names.specs.declared.InitCheck.{InitCheck}
+use Rattle.userspace_names.specs.declared.InitCheck.the-variants.{MustBeInit, MustNotBeInit, DontCare}
 use Rattle.userspace.specs.declared.KernelObject.{KernelObject}
-use Rattle.userspace.specs.declared.Validated.{Validated}
-use Rattle.userspace.specs.declared.Validated.the-variants.{Refused}
-use Rattle.userspace.specs.Bit.{bitOf, isSet, setBit, clearBit, is-set-same, is-set-other, is-clear-same, is-clear-other, is-zero, is-bit, bit-is, bit-shr, lowest, half-bit, bit-ext, bit-ext-below}
-use Rattle.userspace.specs.Userspace.{THREADS, granted, revoked, recycled, clearedAll, initiated, uninitiated, published, newObject, withWord, changedAt, access, holds, validated, judged, typeFits, bitAnswer, answerOf}
+use Rattle.userspace_decide.specs.declared.Validated.{Validated}
+use Rattle.userspace_decide.specs.declared.Validated.the-variants.{Refused}
+use Rattle.bits.specs.Bit.{bitOf, isSet, setBit, clearBit, is-set-same, is-set-other, is-clear-same, is-clear-other, is-zero, is-bit, bit-is, bit-shr, lowest, half-bit, bit-ext, bit-ext-below}
+use Rattle.userspace_decide.specs.Decide.{judged, answerOf}
+use Rattle.userspace.specs.Userspace.{THREADS, granted, revoked, recycled, clearedAll, initiated, uninitiated, published, newObject, withWord, changedAt, access, holds, validated, typeFits, bitAnswer}
 use Rattle.userspace.specs.Table.{Table, Did, withPerms, becomesT, tellsT, says, gives, blank, unless, newT, grantT, revokeT, clearAllT, initT, uninitT, publicT, recycleT, checkT, validateT, initCheckT, hasPermT, entries, permsOf, wordOf, tableOf, didOf, Op, step, stepT, after, afterT, heard, heardT}
 
 -- ---- entries

@@ -2,17 +2,10 @@
 use Prim.Native.Nat.{ℕ}
 use mathlib.Core.Path.{_≡_, sym, _∙_}
 use mathlib.Core.Bool.{Bool}
-use lib.IntN.{ℤ}
 use Rattle.answer.specs.declared.Answer.{Answer}
-use Rattle.userspace.specs.declared.NamedType.{NamedType}
-use Rattle.userspace.specs.declared.NamedCheck.{NamedCheck}
 use Rattle.userspace.specs.declared.KernelObject.{KernelObject}
 use Rattle.userspace.specs.declared.Changed.{Changed}
-use Rattle.userspace.specs.declared.Validated.{Validated}
-use Rattle.userspace.proofs.obj_type_number.Reads as obj-type-number
-use Rattle.userspace.proofs.obj_type_of.Reads as obj-type-of
-use Rattle.userspace.proofs.init_check_number.Reads as init-check-number
-use Rattle.userspace.proofs.init_check_of.Reads as init-check-of
+use Rattle.userspace_decide.specs.declared.Validated.{Validated}
 use Rattle.userspace.proofs.KernelObject.new.Reads as new
 use Rattle.userspace.proofs.KernelObject.grant_access.Reads as grant-access
 use Rattle.userspace.proofs.KernelObject.revoke_access.Reads as revoke-access
@@ -28,28 +21,6 @@ use Rattle.userspace.proofs.KernelObject.is_initialized.Reads as is-ini
 use Rattle.userspace.proofs.KernelObject.is_public.Reads as is-public
 use Rattle.userspace.proofs.KernelObject.has_perm.Reads as has-perm
 use Rattle.userspace.proofs.KernelObject.obj_type_get.Reads as obj-type-get
-use Rattle.userspace.proofs.access_decide.Reads as access-decide
-use Rattle.userspace.proofs.validate_decide.Reads as validate-decide
-use Rattle.userspace.proofs.init_flags_decide.Reads as init-flags-decide
-use Rattle.userspace.proofs.uninit_flags_decide.Reads as uninit-flags-decide
-use Rattle.userspace.proofs.recycle_flags_decide.Reads as recycle-flags-decide
-use Rattle.userspace.proofs.make_public_flags_decide.Reads as make-public-flags-decide
-
-pub obj-type-number-unique :
-    (a : _) (r₁ r₂ : ℕ) (s₁ s₂ : _) → obj-type-number.Post (tt {0}) a r₁ s₁ → obj-type-number.Post (tt {0}) a r₂ s₂ → r₁ ≡ r₂
-obj-type-number-unique a r₁ r₂ s₁ s₂ p q = p ∙ sym q
-
-pub obj-type-of-unique :
-    (a : _) (r₁ r₂ : NamedType) (s₁ s₂ : _) → obj-type-of.Post (tt {0}) a r₁ s₁ → obj-type-of.Post (tt {0}) a r₂ s₂ → r₁ ≡ r₂
-obj-type-of-unique a r₁ r₂ s₁ s₂ p q = p ∙ sym q
-
-pub init-check-number-unique :
-    (a : _) (r₁ r₂ : ℤ) (s₁ s₂ : _) → init-check-number.Post (tt {0}) a r₁ s₁ → init-check-number.Post (tt {0}) a r₂ s₂ → r₁ ≡ r₂
-init-check-number-unique a r₁ r₂ s₁ s₂ p q = p ∙ sym q
-
-pub init-check-of-unique :
-    (a : _) (r₁ r₂ : NamedCheck) (s₁ s₂ : _) → init-check-of.Post (tt {0}) a r₁ s₁ → init-check-of.Post (tt {0}) a r₂ s₂ → r₁ ≡ r₂
-init-check-of-unique a r₁ r₂ s₁ s₂ p q = p ∙ sym q
 
 pub new-unique :
     (a : _) (r₁ r₂ : KernelObject) (s₁ s₂ : _) → new.Post (tt {0}) a r₁ s₁ → new.Post (tt {0}) a r₂ s₂ → r₁ ≡ r₂
@@ -110,27 +81,3 @@ has-perm-unique a r₁ r₂ s₁ s₂ p q = p ∙ sym q
 pub obj-type-get-unique :
     (a : _) (r₁ r₂ : ℕ) (s₁ s₂ : _) → obj-type-get.Post (tt {0}) a r₁ s₁ → obj-type-get.Post (tt {0}) a r₂ s₂ → r₁ ≡ r₂
 obj-type-get-unique a r₁ r₂ s₁ s₂ p q = p ∙ sym q
-
-pub access-decide-unique :
-    (a : _) (r₁ r₂ : Bool) (s₁ s₂ : _) → access-decide.Post (tt {0}) a r₁ s₁ → access-decide.Post (tt {0}) a r₂ s₂ → r₁ ≡ r₂
-access-decide-unique a r₁ r₂ s₁ s₂ p q = p ∙ sym q
-
-pub validate-decide-unique :
-    (a : _) (r₁ r₂ : Validated) (s₁ s₂ : _) → validate-decide.Post (tt {0}) a r₁ s₁ → validate-decide.Post (tt {0}) a r₂ s₂ → r₁ ≡ r₂
-validate-decide-unique a r₁ r₂ s₁ s₂ p q = p ∙ sym q
-
-pub init-flags-decide-unique :
-    (a : _) (r₁ r₂ : ℕ) (s₁ s₂ : _) → init-flags-decide.Post (tt {0}) a r₁ s₁ → init-flags-decide.Post (tt {0}) a r₂ s₂ → r₁ ≡ r₂
-init-flags-decide-unique a r₁ r₂ s₁ s₂ p q = p ∙ sym q
-
-pub uninit-flags-decide-unique :
-    (a : _) (r₁ r₂ : ℕ) (s₁ s₂ : _) → uninit-flags-decide.Post (tt {0}) a r₁ s₁ → uninit-flags-decide.Post (tt {0}) a r₂ s₂ → r₁ ≡ r₂
-uninit-flags-decide-unique a r₁ r₂ s₁ s₂ p q = p ∙ sym q
-
-pub recycle-flags-decide-unique :
-    (a : _) (r₁ r₂ : ℕ) (s₁ s₂ : _) → recycle-flags-decide.Post (tt {0}) a r₁ s₁ → recycle-flags-decide.Post (tt {0}) a r₂ s₂ → r₁ ≡ r₂
-recycle-flags-decide-unique a r₁ r₂ s₁ s₂ p q = p ∙ sym q
-
-pub make-public-flags-decide-unique :
-    (a : _) (r₁ r₂ : ℕ) (s₁ s₂ : _) → make-public-flags-decide.Post (tt {0}) a r₁ s₁ → make-public-flags-decide.Post (tt {0}) a r₂ s₂ → r₁ ≡ r₂
-make-public-flags-decide-unique a r₁ r₂ s₁ s₂ p q = p ∙ sym q

@@ -11,17 +11,19 @@ use native.Mathlib.Nat.{one-mul, zero-mul}
 use native.Mathlib.Omega.{arith}
 use borrow.Author.Tests.{lt-ltb, le-ltb, eq-eqb, ne-eqb, eqb-true}
 use Rattle.answer.specs.Tests.{gt-eqb}
-use Rattle.userspace.specs.declared.ObjType.{ObjType}
-use Rattle.userspace.specs.declared.ObjType.the-variants.{Any, Thread, Sem, Mutex, CondVar, MsgQ, Stack, Pipe, Timer, Event, MemSlab, Fifo, Lifo, SysMutex, Futex, Mbox}
-use Rattle.userspace.specs.declared.NamedType.the-variants as types
-use Rattle.userspace.specs.declared.NamedCheck.the-variants as checks
-use Rattle.userspace.specs.declared.InitCheck.{InitCheck}
-use Rattle.userspace.specs.declared.InitCheck.the-variants.{MustBeInit, MustNotBeInit, DontCare}
+use Rattle.userspace_names.specs.declared.ObjType.{ObjType}
+use Rattle.userspace_names.specs.declared.ObjType.the-variants.{Any, Thread, Sem, Mutex, CondVar, MsgQ, Stack, Pipe, Timer, Event, MemSlab, Fifo, Lifo, SysMutex, Futex, Mbox}
+use Rattle.userspace_names.specs.declared.NamedType.the-variants as types
+use Rattle.userspace_names.specs.declared.NamedCheck.the-variants as checks
+use Rattle.userspace_names.specs.declared.InitCheck.{InitCheck}
+use Rattle.userspace_names.specs.declared.InitCheck.the-variants.{MustBeInit, MustNotBeInit, DontCare}
 use Rattle.userspace.specs.declared.KernelObject.{KernelObject}
 use Rattle.userspace.specs.declared.Changed.{Changed}
-use Rattle.userspace.specs.declared.Validated.the-variants.{Ok, Refused}
-use Rattle.userspace.specs.Bit.{bitOf, isSet, setBit, clearBit, bit-lt, set-same, set-other, clear-same, clear-other, is-set-same, is-set-other, is-clear-same, is-clear-other, is-zero, is-bit, bit-is, bit-ext, bit-ext-below, and-one, clear-mask, bit-and, set-lt, clear-lt}
-use Rattle.userspace.specs.Userspace.{THREADS, INITIALISED, PUBLIC, ALLOC, DRIVER, typeNumber, typeNamed, checkNumber, checkNamed, initialised, public, holds, access, changedAt, done, refused, newObject, granted, revoked, clearedAll, recycled, initiated, uninitiated, published, bitAnswer, typeFits, judged, validated, withWord}
+use Rattle.userspace_decide.specs.declared.Validated.the-variants.{Ok, Refused}
+use Rattle.bits.specs.Bit.{bitOf, isSet, setBit, clearBit, bit-lt, set-same, set-other, clear-same, clear-other, is-set-same, is-set-other, is-clear-same, is-clear-other, is-zero, is-bit, bit-is, bit-ext, bit-ext-below, and-one, clear-mask, bit-and, set-lt, clear-lt}
+use Rattle.userspace_names.specs.Names.{typeNumber, typeNamed, checkNumber, checkNamed}
+use Rattle.userspace_decide.specs.Decide.{INITIALISED, PUBLIC, ALLOC, DRIVER, judged}
+use Rattle.userspace.specs.Userspace.{THREADS, initialised, public, holds, access, changedAt, done, refused, newObject, granted, revoked, clearedAll, recycled, initiated, uninitiated, published, bitAnswer, typeFits, validated, withWord}
 use Rattle.userspace.specs.Laws.{refuses, does, either-way}
 use Rattle.userspace.specs.Table.{Op, step}
 

@@ -1,4 +1,3 @@
-pub mod Bit
 pub mod Userspace
 pub mod Laws
 pub mod Table

@@ -8,14 +8,15 @@ use lib.ListN.{getD, set, replicate}
 use Rattle.answer.specs.declared.Answer.{Answer}
 use Rattle.answer.specs.declared.Code.the-variants as codes
 use Rattle.answer.specs.Answer.{numberOf}
-use Rattle.userspace.specs.declared.InitCheck.{InitCheck}
-use Rattle.userspace.specs.declared.InitCheck.the-variants.{MustBeInit, MustNotBeInit, DontCare}
+use Rattle.userspace_names.specs.declared.InitCheck.{InitCheck}
+use Rattle.userspace_names.specs.declared.InitCheck.the-variants.{MustBeInit, MustNotBeInit, DontCare}
 use Rattle.userspace.specs.declared.KernelObject.{KernelObject}
 use Rattle.userspace.specs.declared.Changed.{Changed}
-use Rattle.userspace.specs.declared.Validated.{Validated}
-use Rattle.userspace.specs.declared.Validated.the-variants.{Ok, Refused}
-use Rattle.userspace.specs.Bit.{isSet}
-use Rattle.userspace.specs.Userspace.{THREADS, INITIALISED, PUBLIC, ALLOC, DRIVER, granted, revoked, clearedAll, recycled, initiated, uninitiated, published, newObject, access, validated, answerOf, initialised, public, bitAnswer}
+use Rattle.userspace_decide.specs.declared.Validated.{Validated}
+use Rattle.userspace_decide.specs.declared.Validated.the-variants.{Ok, Refused}
+use Rattle.bits.specs.Bit.{isSet}
+use Rattle.userspace_decide.specs.Decide.{INITIALISED, PUBLIC, ALLOC, DRIVER, answerOf}
+use Rattle.userspace.specs.Userspace.{THREADS, granted, revoked, clearedAll, recycled, initiated, uninitiated, published, newObject, access, validated, initialised, public, bitAnswer}
 
 -- ---- upstream's record
 

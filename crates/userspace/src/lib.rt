@@ -3,52 +3,13 @@
 // definition of specs/Userspace for every record taken literally and every number; a thread from 64 on is
 // refused with EINVAL and the record comes back unchanged; the word acts as upstream's table (proofs/Table).
 ghost use mathlib.Core.Path.{_≡_};
-ghost use mathlib.Core.Bool.{_||_};
-ghost use Rattle.userspace.specs.Bit.{setBit, clearBit};
-ghost use Rattle.userspace.specs.Userspace.{INITIALISED, PUBLIC, typeNumber, typeNamed, checkNumber, checkNamed, modeOf, bitAt, withBit, withoutBit, withWord, withFlags, public, initialised, changedAt, newObject, granted, revoked, clearedAll, access, typeFits, judged, validated, initiated, uninitiated, recycled, published, bitAnswer};
+ghost use Rattle.userspace.specs.Userspace.{bitAt, withBit, withoutBit, withWord, withFlags, public, initialised, changedAt, newObject, granted, revoked, clearedAll, access, typeFits, validated, initiated, uninitiated, recycled, published, bitAnswer};
 use answer::Answer;
+use userspace_decide::Validated;
+use userspace_names::InitCheck;
 
 // Threads 0 to 63 have a bit.
 pub const MAX_THREADS: u32 = 64;
-
-// What a kernel object is. A record holds the number, which may be none of these.
-pub enum ObjType {
-    Any = 0,
-    Thread = 1,
-    Sem = 2,
-    Mutex = 3,
-    CondVar = 4,
-    MsgQ = 5,
-    Stack = 6,
-    Pipe = 7,
-    Timer = 8,
-    Event = 9,
-    MemSlab = 10,
-    Fifo = 11,
-    Lifo = 12,
-    SysMutex = 13,
-    Futex = 14,
-    Mbox = 15,
-}
-
-// What a number names: a type, or nothing.
-pub enum NamedType {
-    Is(ObjType),
-    Nothing,
-}
-
-// What a validation asks of the initialised flag.
-pub enum InitCheck {
-    MustBeInit = 0,
-    MustNotBeInit = -1,
-    DontCare = 1,
-}
-
-// What a number names: a mode, or nothing.
-pub enum NamedCheck {
-    Is(InitCheck),
-    Nothing,
-}
 
 // A record as it is stored: type and flags are compared and never judged.
 pub struct KernelObject {
@@ -62,84 +23,6 @@ pub struct Changed {
     pub code: u32,
     pub value: u32,
     pub object: KernelObject,
-}
-
-// Upstream's Result of a validation: the refusing case holds the table's number.
-pub enum Validated {
-    Ok,
-    Refused(u32),
-}
-
-pub fn obj_type_number(t: ObjType) -> u8
-    ensures { λ r. ⌜ r ≡ typeNumber t ⌝ }
-{
-    match t {
-        ObjType::Any => 0,
-        ObjType::Thread => 1,
-        ObjType::Sem => 2,
-        ObjType::Mutex => 3,
-        ObjType::CondVar => 4,
-        ObjType::MsgQ => 5,
-        ObjType::Stack => 6,
-        ObjType::Pipe => 7,
-        ObjType::Timer => 8,
-        ObjType::Event => 9,
-        ObjType::MemSlab => 10,
-        ObjType::Fifo => 11,
-        ObjType::Lifo => 12,
-        ObjType::SysMutex => 13,
-        ObjType::Futex => 14,
-        ObjType::Mbox => 15,
-    }
-}
-
-pub fn obj_type_of(n: u32) -> NamedType
-    ensures { λ r. ⌜ r ≡ typeNamed n ⌝ }
-{
-    match n {
-        0 => NamedType::Is(ObjType::Any),
-        1 => NamedType::Is(ObjType::Thread),
-        2 => NamedType::Is(ObjType::Sem),
-        3 => NamedType::Is(ObjType::Mutex),
-        4 => NamedType::Is(ObjType::CondVar),
-        5 => NamedType::Is(ObjType::MsgQ),
-        6 => NamedType::Is(ObjType::Stack),
-        7 => NamedType::Is(ObjType::Pipe),
-        8 => NamedType::Is(ObjType::Timer),
-        9 => NamedType::Is(ObjType::Event),
-        10 => NamedType::Is(ObjType::MemSlab),
-        11 => NamedType::Is(ObjType::Fifo),
-        12 => NamedType::Is(ObjType::Lifo),
-        13 => NamedType::Is(ObjType::SysMutex),
-        14 => NamedType::Is(ObjType::Futex),
-        15 => NamedType::Is(ObjType::Mbox),
-        _ => NamedType::Nothing,
-    }
-}
-
-pub fn init_check_number(c: InitCheck) -> i8
-    ensures { λ r. ⌜ r ≡ checkNumber c ⌝ }
-{
-    match c {
-        InitCheck::MustBeInit => 0,
-        InitCheck::MustNotBeInit => -1,
-        InitCheck::DontCare => 1,
-    }
-}
-
-pub fn init_check_of(n: i32) -> NamedCheck
-    ensures { λ r. ⌜ r ≡ checkNamed n ⌝ }
-{
-    if n == 0 {
-        return NamedCheck::Is(InitCheck::MustBeInit);
-    }
-    if n == -1 {
-        return NamedCheck::Is(InitCheck::MustNotBeInit);
-    }
-    if n == 1 {
-        return NamedCheck::Is(InitCheck::DontCare);
-    }
-    NamedCheck::Nothing
 }
 
 // Bit t of a word, as a number; no thread from 64 on has one.
@@ -197,9 +80,9 @@ fn type_fits(expected: u8, actual: u8) -> bool
 }
 
 impl KernelObject {
-    pub const INITIALIZED: u8 = 1;
+    pub const INITIALIZED: u8 = userspace_decide::FLAG_INITIALIZED;
 
-    pub const PUBLIC: u8 = 2;
+    pub const PUBLIC: u8 = userspace_decide::FLAG_PUBLIC;
 
     pub const ALLOC: u8 = 4;
 
@@ -267,7 +150,7 @@ impl KernelObject {
         if supervisor {
             return true;
         }
-        access_decide(self.is_public(), bit(self.word, tid) == 1)
+        userspace_decide::access_decide(self.is_public(), bit(self.word, tid) == 1)
     }
 
     pub fn validate(self, expected: u8, tid: u32, supervisor: bool, check: InitCheck) -> Validated
@@ -275,26 +158,26 @@ impl KernelObject {
     {
         let fits = type_fits(expected, self.obj_type);
         let allowed = self.check_access(tid, supervisor);
-        let mode = init_check_number(check);
-        validate_decide(fits, allowed, self.is_initialized(), mode)
+        let mode = userspace_names::init_check_number(check);
+        userspace_decide::validate_decide(fits, allowed, self.is_initialized(), mode)
     }
 
     pub fn init_object(self) -> Self
         ensures { λ r. ⌜ r ≡ initiated self ⌝ }
     {
-        self.with_flags(init_flags_decide(self.flags))
+        self.with_flags(userspace_decide::init_flags_decide(self.flags))
     }
 
     pub fn uninit_object(self) -> Self
         ensures { λ r. ⌜ r ≡ uninitiated self ⌝ }
     {
-        self.with_flags(uninit_flags_decide(self.flags))
+        self.with_flags(userspace_decide::uninit_flags_decide(self.flags))
     }
 
     pub fn recycle(self, caller: u32) -> Changed
         ensures { λ r. ⌜ r ≡ recycled self caller ⌝ }
     {
-        let flags = recycle_flags_decide(self.flags);
+        let flags = userspace_decide::recycle_flags_decide(self.flags);
         let word = with_bit(0, caller);
         let after = Self {
             obj_type: self.obj_type,
@@ -307,7 +190,7 @@ impl KernelObject {
     pub fn make_public(self) -> Self
         ensures { λ r. ⌜ r ≡ published self ⌝ }
     {
-        self.with_flags(make_public_flags_decide(self.flags))
+        self.with_flags(userspace_decide::make_public_flags_decide(self.flags))
     }
 
     pub fn is_initialized(self) -> bool
@@ -343,55 +226,4 @@ impl KernelObject {
         let kind = self.obj_type;
         kind
     }
-}
-
-pub fn access_decide(public: bool, held: bool) -> bool
-    ensures { λ r. ⌜ r ≡ (public || held) ⌝ }
-{
-    public || held
-}
-
-pub fn validate_decide(fits: bool, allowed: bool, ready: bool, mode: i8) -> Validated
-    ensures { λ r. ⌜ r ≡ judged fits allowed ready (modeOf mode) ⌝ }
-{
-    if !fits {
-        return Validated::Refused(answer::EBADF);
-    }
-    if !allowed {
-        return Validated::Refused(answer::EPERM);
-    }
-    if mode == 0 {
-        if !ready {
-            return Validated::Refused(answer::EINVAL);
-        }
-    } else if mode == -1 {
-        if ready {
-            return Validated::Refused(answer::EADDRINUSE);
-        }
-    }
-    Validated::Ok
-}
-
-pub fn init_flags_decide(flags: u8) -> u8
-    ensures { λ r. ⌜ r ≡ setBit flags INITIALISED ⌝ }
-{
-    flags | KernelObject::INITIALIZED
-}
-
-pub fn uninit_flags_decide(flags: u8) -> u8
-    ensures { λ r. ⌜ r ≡ clearBit flags INITIALISED ⌝ }
-{
-    flags & !KernelObject::INITIALIZED
-}
-
-pub fn recycle_flags_decide(flags: u8) -> u8
-    ensures { λ r. ⌜ r ≡ setBit flags INITIALISED ⌝ }
-{
-    init_flags_decide(flags)
-}
-
-pub fn make_public_flags_decide(flags: u8) -> u8
-    ensures { λ r. ⌜ r ≡ setBit flags PUBLIC ⌝ }
-{
-    flags | KernelObject::PUBLIC
 }

@@ -2,10 +2,10 @@
 use Prim.Native.Nat.{zero, suc}
 use mathlib.Core.Path.{_≡_, refl}
 use lib.IntN.{ℤ, pos, negsuc}
-use Rattle.userspace.specs.Userspace.{checkNamed, modeOf}
-use Rattle.userspace.specs.declared.InitCheck.{InitCheck}
-use Rattle.userspace.specs.declared.InitCheck.the-variants.{DontCare}
-use Rattle.userspace.specs.declared.NamedCheck.the-variants.{Is, Nothing}
+use Rattle.userspace_names.specs.Names.{checkNamed, modeOf}
+use Rattle.userspace_names.specs.declared.InitCheck.{InitCheck}
+use Rattle.userspace_names.specs.declared.InitCheck.the-variants.{DontCare}
+use Rattle.userspace_names.specs.declared.NamedCheck.the-variants.{Is, Nothing}
 
 pub named : (z : ℤ) (c : InitCheck) → checkNamed z ≡ Is c → c ≡ modeOf z
 named (pos zero) c e = cc

@@ -4,7 +4,9 @@ use mathlib.Core.Path.{_≡_}
 use mathlib.Core.Bool.{Bool}
 use lib.IntN.{ℤ}
 use Rattle.userspace.specs.declared.KernelObject.{KernelObject}
-use Rattle.userspace.specs.Userspace.{granted, revoked, recycled, bitAnswer, access, validated, answerOf, modeOf}
+use Rattle.userspace_names.specs.Names.{modeOf}
+use Rattle.userspace_decide.specs.Decide.{answerOf}
+use Rattle.userspace.specs.Userspace.{granted, revoked, recycled, bitAnswer, access, validated}
 
 -- a record of these fields; the type plays no part but in validate
 abbrev pub objectOf : ℕ → ℕ → ℕ → KernelObject

@@ -1,12 +1,13 @@
 // The permission leaf for C and Rust, over plain numbers: a record's type, flags and word stand with the caller, and what a call
 // changes is written where the caller says. Each function is the leaf's own, with the leaf's promise; nothing is decided here.
 ghost use mathlib.Core.Path.{_≡_};
-ghost use Rattle.userspace.specs.Userspace.{modeOf, answerOf};
+ghost use Rattle.userspace_names.specs.Names.{modeOf};
+ghost use Rattle.userspace_decide.specs.Decide.{answerOf};
 ghost use Rattle.userspace_c.specs.Exported.{Grants, Revokes, Recycles, Queries, mayUse, validCode};
-use userspace::InitCheck;
 use userspace::KernelObject;
-use userspace::NamedCheck;
-use userspace::Validated;
+use userspace_decide::Validated;
+use userspace_names::InitCheck;
+use userspace_names::NamedCheck;
 
 fn object(kind: u8, flags: u8, word: u64) -> KernelObject
     ensures { λ r. ⌜ r ≡ record { «obj_type» = kind; flags = flags; word = word } ⌝ }
@@ -84,7 +85,7 @@ pub extern "C" fn userspace_validate(
 fn check(mode: i32) -> InitCheck
     ensures { λ r. ⌜ r ≡ modeOf mode ⌝ }
 {
-    match userspace::init_check_of(mode) {
+    match userspace_names::init_check_of(mode) {
         NamedCheck::Is(c) => c,
         NamedCheck::Nothing => InitCheck::DontCare,
     }

@@ -1,6 +1,6 @@
 use mathlib.Core.Path.{refl, _∙_}
 use native.Mathlib.Omega.{arith}
-use Rattle.judging.specs.Calls.{opOf}
+use Rattle.decoding.specs.Calls.{opOf}
 use Rattle.judging.specs.Change.{threadChange}
 use Rattle.applying.proofs.Ops.{no-thread}
 use Rattle.applying.proofs.Tables.{thread-one, thread-none}

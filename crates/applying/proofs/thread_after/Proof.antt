@@ -1,7 +1,7 @@
 use Rattle.applying.proofs.Ops.{no-thread}
 use mathlib.Core.Path.{sym, ap}
 use native.Mathlib.Omega.{arith}
-use Rattle.judging.specs.Calls.{opOf}
+use Rattle.decoding.specs.Calls.{opOf}
 use Rattle.judging.specs.Change.{threadChange}
 use Rattle.applying.specs.Apply.{threadAfter, rewritten}
 use borrow.Author.Needs.{needs}

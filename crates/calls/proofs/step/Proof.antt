@@ -4,7 +4,7 @@ use Rattle.calls.proofs.step.Statement.{statement}
 use Rattle.calls.proofs.step.Tie as tie
 use Rattle.calls.proofs.step.Reads as reads
 use Rattle.calls.proofs.step.Lts as lts
-use Rattle.applying.proofs.change_objects.Reads as change-objects-reads
+use Rattle.applying_objects.proofs.change_objects.Reads as change-objects-reads
 use Rattle.applying.proofs.change_slots.Reads as change-slots-reads
 use Rattle.applying.proofs.change_threads.Reads as change-threads-reads
 use Rattle.judging.proofs.judge.Reads as judge-reads

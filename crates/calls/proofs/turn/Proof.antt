@@ -6,7 +6,7 @@ use Rattle.calls.proofs.turn.Reads as reads
 use Rattle.calls.proofs.turn.Lts as lts
 use Rattle.calls.proofs.put_answer.Reads as put-answer-reads
 use Rattle.calls.proofs.step.Reads as step-reads
-use Rattle.judging.proofs.decode.Reads as decode-reads
+use Rattle.decoding.proofs.decode.Reads as decode-reads
 
 -- src/lib.rt:64:16
 mul-from : tie.Need-mul-from

@@ -1,7 +1,7 @@
 use Rattle.answer.specs.Tests.{tests, via}
 use borrow.Author.Tests.{lt-ltb, le-ltb, le-leb, lt-leb, eq-eqb, ne-eqb}
 use Rattle.domain_rules.specs.Sound.{attrOk, slotOk, apartOf}
-use Rattle.mem_domain.specs.Partition.{holds}
+use Rattle.mem_partition.specs.Partition.{holds}
 use Rattle.domain_rules.proofs.attr_ok.Statement.{statement}
 use Rattle.domain_rules.proofs.attr_ok.Tie as tie
 use Rattle.domain_rules.proofs.attr_ok.Reads as reads

@@ -1,13 +1,13 @@
 use Rattle.answer.specs.Tests.{tests, via}
 use borrow.Author.Tests.{lt-ltb, le-ltb, le-leb, lt-leb, eq-eqb, ne-eqb}
 use Rattle.domain_rules.specs.Sound.{attrOk, slotOk, apartOf}
-use Rattle.mem_domain.specs.Partition.{holds}
+use Rattle.mem_partition.specs.Partition.{holds}
 use borrow.Author.Needs.{needs}
 use Rattle.domain_rules.proofs.is_apart.Statement.{statement}
 use Rattle.domain_rules.proofs.is_apart.Tie as tie
 use Rattle.domain_rules.proofs.is_apart.Reads as reads
 use Rattle.domain_rules.proofs.is_apart.Lts as lts
-use Rattle.mem_domain.proofs.MemPartition.overlaps.Reads as overlaps-reads
+use Rattle.mem_partition.proofs.MemPartition.overlaps.Reads as overlaps-reads
 
 -- src/lib.rt:310:9
 returns : tie.Need-returns

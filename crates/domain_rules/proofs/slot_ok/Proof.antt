@@ -1,13 +1,13 @@
 use Rattle.answer.specs.Tests.{tests, via}
 use borrow.Author.Tests.{lt-ltb, le-ltb, le-leb, lt-leb, eq-eqb, ne-eqb}
 use Rattle.domain_rules.specs.Sound.{attrOk, slotOk, apartOf}
-use Rattle.mem_domain.specs.Partition.{holds}
+use Rattle.mem_partition.specs.Partition.{holds}
 use borrow.Author.Needs.{needs}
 use Rattle.domain_rules.proofs.slot_ok.Statement.{statement}
 use Rattle.domain_rules.proofs.slot_ok.Tie as tie
 use Rattle.domain_rules.proofs.slot_ok.Reads as reads
 use Rattle.domain_rules.proofs.slot_ok.Lts as lts
-use Rattle.mem_domain.proofs.MemPartition.is_valid.Reads as is-valid-reads
+use Rattle.mem_partition.proofs.MemPartition.is_valid.Reads as is-valid-reads
 use Rattle.domain_rules.proofs.attr_ok.Reads as attr-ok-reads
 
 -- src/lib.rt:296:13

@@ -12,7 +12,7 @@ use Rattle.explain.proofs.put_part.Lts as lts
 use Rattle.explain.proofs.put_call.Reads as put-call-reads
 use Rattle.explain.proofs.put_cut_off.Reads as put-cut-off-reads
 use Rattle.explain.proofs.put_word.Reads as put-word-reads
-use Rattle.judging.proofs.decode.Reads as decode-reads
+use Rattle.decoding.proofs.decode.Reads as decode-reads
 
 -- src/lib.rt:221:35
 slice-aggregate-put-word : tie.Need-slice-aggregate-put-word

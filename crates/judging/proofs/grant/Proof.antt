@@ -1,5 +1,5 @@
 use mathlib.Core.Path.{refl, sym, _∙_}
-use Rattle.judging.specs.Calls.{grant}
+use Rattle.decoding.specs.Calls.{grant}
 use Rattle.judging.specs.Judge.{wellFormed, useOf}
 use Rattle.judging.proofs.Order.{via-no, via-yes, bad-fields, bad-handle, to-rule}
 use borrow.Author.Needs.{needs}

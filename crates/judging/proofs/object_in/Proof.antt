@@ -5,7 +5,7 @@ use Rattle.judging.proofs.object_in.Statement.{statement}
 use Rattle.judging.proofs.object_in.Tie as tie
 use Rattle.judging.proofs.object_in.Reads as reads
 use Rattle.judging.proofs.object_in.Lts as lts
-use Rattle.tables.proofs.load_object.Reads as load-object-reads
+use Rattle.object_table.proofs.load_object.Reads as load-object-reads
 
 -- src/lib.rt:95:5
 load-object-requires : tie.Need-load-object-requires

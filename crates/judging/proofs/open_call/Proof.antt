@@ -1,6 +1,6 @@
 use Prim.Native.Nat.{_-_}
 use mathlib.Core.Path.{sym, _∙_}
-use Rattle.judging.specs.Calls.{validate, grant, release, check, exit, opOf}
+use Rattle.decoding.specs.Calls.{validate, grant, release, check, exit, opOf}
 use Rattle.judging.proofs.Ops.{check-is, exit-is}
 use Rattle.judging.proofs.Ops.{last-open}
 use borrow.Author.Needs.{needs}

@@ -2,11 +2,11 @@ use Rattle.domain_rules.proofs.All.{both-true}
 use Rattle.judging.proofs.Order.{via-no, via-yes, bad-fields, bad-handle, to-rule}
 use Prim.Native.Nat.{_-_}
 use borrow.Author.Tests.{ltb-true}
-use Rattle.judging.specs.Calls.{validate}
+use Rattle.decoding.specs.Calls.{validate}
 use Rattle.judging.specs.Judge.{wellFormed, useOf}
 use mathlib.Core.Path.{refl, sym, _∙_}
 use borrow.Author.Tests.{ltb-true}
-use Rattle.judging.specs.Calls.{validate}
+use Rattle.decoding.specs.Calls.{validate}
 use Rattle.judging.specs.Judge.{wellFormed, useOf}
 use Rattle.judging.proofs.Order.{via-no, via-yes, bad-fields, bad-handle, to-rule}
 use borrow.Author.Needs.{needs}

@@ -1,7 +1,7 @@
 use Prim.Native.Nat.{_-_}
 use mathlib.Core.Path.{ap, _∙_}
 use Rattle.tables.specs.State.{object, thread}
-use Rattle.judging.specs.Calls.{validate}
+use Rattle.decoding.specs.Calls.{validate}
 use Rattle.judging.specs.Judge.{rule}
 use Rattle.judging.specs.Judge.{plain}
 use Rattle.judging.proofs.Order.{validated-plain, validated-same}

@@ -1,4 +1,4 @@
-use Rattle.userspace.specs.Bit.{code-test}
+use Rattle.bits.specs.Bit.{code-test}
 use Rattle.mem_check.proofs.is_given.Statement.{statement}
 use Rattle.mem_check.proofs.is_given.Tie as tie
 

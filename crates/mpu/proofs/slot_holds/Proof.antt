@@ -1,6 +1,6 @@
 use Rattle.answer.specs.Tests.{tests}
 use borrow.Author.Tests.{ne-eqb}
-use Rattle.mem_domain.specs.Partition.{holds}
+use Rattle.mem_partition.specs.Partition.{holds}
 use borrow.Author.Needs.{needs}
 use Rattle.mpu.proofs.slot_holds.Statement.{statement}
 use Rattle.mpu.proofs.slot_holds.Tie as tie

@@ -1,6 +1,6 @@
 use Rattle.rules.specs.Rules.{isServed, serving, threadOk, judgedThreads, objectOk, objectAtOk, domainsSound, keepsTest}
 use mathlib.Core.Path.{refl}
-use Rattle.userspace.specs.Bit.{isSet, bitOf}
+use Rattle.bits.specs.Bit.{isSet, bitOf}
 use borrow.Author.Needs.{needs}
 use Rattle.rules.proofs.is_served.Statement.{statement}
 use Rattle.rules.proofs.is_served.Tie as tie

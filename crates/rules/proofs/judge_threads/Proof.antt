@@ -1,7 +1,7 @@
 use mathlib.Core.Path.{_≡_, refl, sym, ap, _∙_}
 use mathlib.Core.Logic.{_⊎_, inl, inr}
 use Rattle.rules.proofs.Rules.{live-handle}
-use Rattle.userspace.specs.Bit.{setBit, code-set}
+use Rattle.bits.specs.Bit.{setBit, code-set}
 use Rattle.rules.specs.Rules.{isServed, serving, threadOk, judgedThreads, objectOk, objectAtOk, domainsSound, keepsTest}
 use borrow.Author.Needs.{needs}
 use Rattle.answer.specs.Tests.{tests, via}

@@ -7,7 +7,7 @@ use Rattle.rules.proofs.thread_ok.Tie as tie
 use Rattle.rules.proofs.thread_ok.Reads as reads
 use Rattle.rules.proofs.thread_ok.Lts as lts
 use Rattle.rules.proofs.home_ok.Reads as home-ok-reads
-use Rattle.tables.proofs.load_object.Reads as load-object-reads
+use Rattle.object_table.proofs.load_object.Reads as load-object-reads
 
 -- src/lib.rt:215:13
 returns : tie.Need-returns

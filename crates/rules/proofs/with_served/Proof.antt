@@ -1,6 +1,6 @@
 use Rattle.rules.specs.Rules.{isServed, serving, threadOk, judgedThreads, objectOk, objectAtOk, domainsSound, keepsTest}
 use native.Mathlib.Nat.{mod-lt, zero-lt-suc}
-use Rattle.userspace.specs.Bit.{code-set}
+use Rattle.bits.specs.Bit.{code-set}
 use borrow.Author.Needs.{needs}
 use Rattle.rules.proofs.with_served.Statement.{statement}
 use Rattle.rules.proofs.with_served.Tie as tie

@@ -1,7 +1,7 @@
 use Prim.Native.Nat.{_+_, _*_, _-_}
 use mathlib.Core.Path.{refl}
 use borrow.Author.Needs.{needs}
-use Rattle.mem_domain.specs.Partition.{empty}
+use Rattle.mem_partition.specs.Partition.{empty}
 use Rattle.tables.specs.Tabulate.{Filling, fill-none, fill-more, fill-all}
 use Rattle.tables.specs.Table.{partitionAt, partitionsAt}
 use Rattle.tables.proofs.partitions_at.Statement.{statement}

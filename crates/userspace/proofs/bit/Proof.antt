@@ -1,5 +1,5 @@
 use Rattle.answer.specs.Tests.{tests}
-use Rattle.userspace.specs.Bit.{bitOf}
+use Rattle.bits.specs.Bit.{bitOf}
 use Rattle.userspace.specs.Userspace.{bitAt}
 use borrow.Author.Needs.{needs}
 use Rattle.userspace.proofs.bit.Statement.{statement}

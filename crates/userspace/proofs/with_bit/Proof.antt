@@ -1,6 +1,6 @@
 use Rattle.answer.specs.Tests.{tests}
 use borrow.Author.Tests.{lt-ltb}
-use Rattle.userspace.specs.Bit.{code-set}
+use Rattle.bits.specs.Bit.{code-set}
 use Rattle.userspace.specs.Userspace.{withBit}
 use borrow.Author.Needs.{needs}
 use Rattle.userspace.proofs.with_bit.Statement.{statement}

@@ -1,6 +1,6 @@
 use Rattle.answer.specs.Tests.{tests}
 use borrow.Author.Tests.{lt-ltb}
-use Rattle.userspace.specs.Bit.{code-clear}
+use Rattle.bits.specs.Bit.{code-clear}
 use Rattle.userspace.specs.Userspace.{withoutBit}
 use borrow.Author.Needs.{needs}
 use Rattle.userspace.proofs.without_bit.Statement.{statement}

@@ -1,4 +1,4 @@
-use Rattle.userspace.specs.Userspace.{checkNamed}
+use Rattle.userspace_names.specs.Names.{checkNamed}
 use mir.Facts.{toZ-ofZ}
 use mathlib.Core.Path.{sym, ap, _∙_}
 use Rattle.answer.specs.Tests.{via}

@@ -3,7 +3,7 @@ use mathlib.Core.Bool.{not}
 use mathlib.Core.Path.{sym, ap, _∙_}
 use borrow.Author.Tests.{not-true, not-false}
 use Rattle.mem_domain.proofs.Domain.{clashes-crossed, addable-past, addable-bad}
-use Rattle.mem_domain.proofs.Partition.{valid-end}
+use Rattle.mem_partition.proofs.Partition.{valid-end}
 use Rattle.mem_domain.proofs.MemDomain.check_add_partition.Statement.{statement}
 use Rattle.mem_domain.proofs.MemDomain.check_add_partition.Tie as tie
 

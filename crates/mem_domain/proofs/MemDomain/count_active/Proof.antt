@@ -4,7 +4,7 @@ use mathlib.Core.Bool.{not}
 use mathlib.Core.Logic.{inl, inr}
 use mathlib.Core.Path.{_≡_, sym, ap, _∙_}
 use borrow.Author.Tests.{eq-eqb, ne-eqb}
-use Rattle.mem_domain.specs.Partition.{isActive}
+use Rattle.mem_partition.specs.Partition.{isActive}
 use Rattle.mem_domain.specs.Domain.{activeTo, activeCount, slotAt}
 use Rattle.mem_domain.proofs.Scan.{count-none, count-hit, count-miss, count-le}
 use Rattle.mem_domain.proofs.MemDomain.count_active.Statement.{statement}

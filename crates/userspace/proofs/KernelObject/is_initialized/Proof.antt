@@ -1,4 +1,4 @@
-use Rattle.userspace.specs.Bit.{code-test}
+use Rattle.bits.specs.Bit.{code-test}
 use Rattle.userspace.proofs.KernelObject.is_initialized.Statement.{statement}
 use Rattle.userspace.proofs.KernelObject.is_initialized.Tie as tie
 

@@ -1,4 +1,4 @@
-use Rattle.userspace.specs.Bit.{code-test}
+use Rattle.bits.specs.Bit.{code-test}
 use Rattle.userspace.proofs.KernelObject.is_public.Statement.{statement}
 use Rattle.userspace.proofs.KernelObject.is_public.Tie as tie
 
