@@ -1,6 +1,7 @@
 // Replays a log of calls on the state of an image, and prints an answer a call: `replay [--explain] IMAGE < CALLS`.
 // This program only reads and writes. The image is read by `image`, the calls are run by `calls`, the lines are made by `lines` or `explain`; each of
 // these promises all that it does. Memory is constant for a log of any length: a buffer of calls, their answers and their lines.
+ghost use Rattle.io.specs.Counts.{Counts};
 use libc::STDERR_FILENO;
 use libc::STDIN_FILENO;
 use libc::STDOUT_FILENO;
@@ -163,7 +164,7 @@ struct Got {
 
 // Reads until the buffer is full or the input ends, in whatever pieces it comes. (io::read_full does not tell a failure from the end.)
 fn fill(fd: i32, buf: &mut [u8]) -> Got
-    ensures { λ r. ⌜ (r .bytes ≤ length (now (buf .exit))) ⌝ }
+    ensures { λ r. ⌜ Counts (r .bytes) (now (buf .exit)) ⌝ }
 {
     let mut done: usize = 0;
     while done < buf.len() {
@@ -186,4 +187,71 @@ fn fill(fd: i32, buf: &mut [u8]) -> Got
         bytes: done,
         failed: false,
     }
+}
+
+fn in_numbers(objects: &mut [u64], threads: &mut [u32], slots: &mut [u32]) {
+    let mut log = [0u8; LOG];
+    let mut out = [0u32; ANSWERS];
+    let mut text = [0u8; LINES];
+    every(
+        objects, threads, slots, &mut log, &mut out, &mut text, false,
+    );
+}
+
+fn in_words(objects: &mut [u64], threads: &mut [u32], slots: &mut [u32]) {
+    let mut log = [0u8; FEW];
+    let mut out = [0u32; ANSWERS];
+    let mut text = [0u8; WORDS];
+    every(
+        objects, threads, slots, &mut log, &mut out, &mut text, true,
+    );
+}
+
+// A proved loop has to end, and nothing says that the input does: the turns are counted down from a number that no run uses up.
+fn every(
+    objects: &mut [u64],
+    threads: &mut [u32],
+    slots: &mut [u32],
+    log: &mut [u8],
+    out: &mut [u32],
+    text: &mut [u8],
+    words: bool,
+) {
+    let mut turns = u64::MAX;
+    while turns > 0 && some(objects, threads, slots, log, out, text, words) {
+        turns -= 1;
+    }
+}
+
+// A buffer of calls, which is a whole number of them but at the input's end; whether there may be more.
+fn some(
+    objects: &mut [u64],
+    threads: &mut [u32],
+    slots: &mut [u32],
+    log: &mut [u8],
+    out: &mut [u32],
+    text: &mut [u8],
+    words: bool,
+) -> bool {
+    let got = fill(STDIN_FILENO, log);
+    if got.failed {
+        os::fail(b"replay: standard input");
+        return false;
+    }
+    let n = got.bytes;
+    let ran = calls::run(objects, threads, slots, &log[..n], out);
+    let bytes = format(&log[..n], out, ran.answers, text, words);
+    if !emit(text, bytes) {
+        return false;
+    }
+    n == log.len()
+}
+
+fn format(log: &[u8], out: &[u32], n: usize, text: &mut [u8], words: bool) -> usize {
+    if words {
+        let put = explain::put_explained(log, out, n, text);
+        return put.bytes;
+    }
+    let put = lines::put_lines(out, n, text);
+    put.bytes
 }
