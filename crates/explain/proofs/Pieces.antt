@@ -3,14 +3,14 @@ use Prim.Native.Nat.{ℕ, _+_, _-_, _*_, _≤_, _<_}
 use native.Mathlib.Nat.{add-sub-cancel-left}
 use native.Mathlib.Omega.{arith}
 use mathlib.Core.Path.{_≡_, refl, sym, ap, _∙_}
-use mathlib.Core.List.{List, []}
+use mathlib.Core.List.{List, [], _++_}
 use lib.ListN.{length, take, drop, length-drop, drop-of-length-le}
 use lib.Seq.{take-all}
 use borrow.Author.Tests.{le-ltb}
 use Rattle.lines.specs.Steps.{Piece, known-as, loosely}
-use Rattle.text.specs.Text.{ascii}
+use Rattle.text.specs.Text.{ascii, decimal}
 use Rattle.calls.specs.Calls.{partAt}
-use Rattle.explain.specs.Words.{field, mode, explained}
+use Rattle.explain.specs.Words.{mode, explained}
 
 -- nothing is put
 pub nothing : (t : List ℕ) (at : ℕ) → Piece t at 23 [] at t
@@ -21,7 +21,7 @@ pub word : {t t′ xs ys : List ℕ} {at r : ℕ} (m : ℕ) → length xs ≤ m 
 word m h e p = known-as e (loosely m h p)
 
 -- the upper half of the modes, counted down from 2^32
-pub below-zero : (n : ℕ) → 2147483648 ≤ n → n ≤ 4294967295 → field (ascii "mode -") (4294967295 - n + 1) ≡ mode n
+pub below-zero : (n : ℕ) → 2147483648 ≤ n → n ≤ 4294967295 → ascii ", mode -" ++ decimal (4294967295 - n + 1) ≡ mode n
 unfolding mode
 below-zero n h g =
     let e : 4294967295 - n + 1 ≡ 4294967296 - n = omega arith in

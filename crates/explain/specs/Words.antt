@@ -62,7 +62,7 @@ unused n = cond (eqb n 0) [] (field (ascii "unused") n)
 
 -- a mode is 32 bits with a sign
 unfoldable pub mode : ℕ → List ℕ
-mode n = cond (ltb n 2147483648) (field (ascii "mode") n) (field (ascii "mode -") (4294967296 - n))
+mode n = cond (ltb n 2147483648) (field (ascii "mode") n) (ascii ", mode -" ++ decimal (4294967296 - n))
 
 unfoldable pub fieldA : ℕ → ℕ → List ℕ
 fieldA op n =

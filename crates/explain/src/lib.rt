@@ -119,7 +119,8 @@ fn put_mode(text: &mut [u8], at: usize, n: u32) -> usize
     if n < SIGN {
         return put_field(text, at, b"mode", n);
     }
-    put_field(text, at, b"mode -", u32::MAX - n + 1)
+    let p = put_word(text, at, b", mode -");
+    put_number(text, p, u32::MAX - n + 1)
 }
 
 fn put_a(text: &mut [u8], at: usize, op: u32, n: u32) -> usize
