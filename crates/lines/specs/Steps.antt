@@ -37,7 +37,7 @@ _then_ {t} {t₁} {t₂} {xs} {ys} {at} {m₁} {m₂} {r₁} {r₂} p q =
     record {
       next = q .next ∙ rw (p .next, length-append) (omega arith);
       text = behind xs ys t at r₁ (p .text) (q .text) (sym (p .next));
-      bound = rw length-append (omega (arith, p .bound, q .bound))
+      bound = rw length-append (omega (arith, p .bound, q .bound));
     }
 
 -- the same bytes under another name, or a looser bound

@@ -175,13 +175,14 @@ fn fill(fd: i32, buf: &mut [u8]) -> Got
                 failed: true,
             };
         }
-        if got == 0 {
+        let more = io::count(got, &buf[done..]);
+        if more == 0 {
             return Got {
                 bytes: done,
                 failed: false,
             };
         }
-        done += io::count(got, &buf[done..]);
+        done += more;
     }
     Got {
         bytes: done,
@@ -194,7 +195,13 @@ fn in_numbers(objects: &mut [u64], threads: &mut [u32], slots: &mut [u32]) {
     let mut out = [0u32; ANSWERS];
     let mut text = [0u8; LINES];
     every(
-        objects, threads, slots, &mut log, &mut out, &mut text, false,
+        objects,
+        threads,
+        slots,
+        &mut log,
+        &mut out,
+        &mut text,
+        false,
     );
 }
 
@@ -202,9 +209,7 @@ fn in_words(objects: &mut [u64], threads: &mut [u32], slots: &mut [u32]) {
     let mut log = [0u8; FEW];
     let mut out = [0u32; ANSWERS];
     let mut text = [0u8; WORDS];
-    every(
-        objects, threads, slots, &mut log, &mut out, &mut text, true,
-    );
+    every(objects, threads, slots, &mut log, &mut out, &mut text, true);
 }
 
 // A proved loop has to end, and nothing says that the input does: the turns are counted down from a number that no run uses up.
