@@ -1,8 +1,8 @@
 // Reading a call: its sixteen bytes, little-endian. Promised, for any bytes: the call is the definition `callOf` of specs/Calls.antt, where bytes that are
 // not there read as 0. Which operation a number names is said there too, for the crates above.
 ghost use mathlib.Core.Path.{_≡_};
-ghost use Prim.Native.Nat.{_<_, _≤_};
-ghost use lib.ListN.{getD};
+ghost use Prim.Native.Nat.{_+_, _<_, _≤_};
+ghost use lib.ListN.{getD, length};
 ghost use Rattle.decoding.specs.Calls.{wordAt, callOf};
 
 // A call as its bytes have it.
@@ -35,8 +35,8 @@ fn word_at(bytes: &[u8], i: usize) -> u32
     low + byte_at(bytes, i + 2) * 65536 + byte_at(bytes, i + 3) * 16777216
 }
 
-// The call of sixteen bytes, little-endian. Bytes that are not there read as 0; whoever has fewer than sixteen says SHORT before.
-pub fn decode(bytes: &[u8]) -> Call
+// Bytes that are not there read as 0; whoever has fewer than sixteen says SHORT before.
+fn padded(bytes: &[u8]) -> Call
     ensures { λ r. ⌜ r ≡ callOf (now (bytes .entry)) ⌝ }
 {
     let op = byte_at(bytes, 0);
@@ -45,6 +45,44 @@ pub fn decode(bytes: &[u8]) -> Call
     let b = word_at(bytes, 4);
     let c = word_at(bytes, 8);
     let d = word_at(bytes, 12);
+    Call {
+        op,
+        caller,
+        a,
+        b,
+        c,
+        d,
+    }
+}
+
+fn byte(bytes: &[u8], i: usize) -> u32
+    requires { ⌜ i < length (now bytes) ⌝ }
+    ensures { λ r. ⌜ (r ≡ getD (now (bytes .entry)) i 0) × (r < 256) ⌝ }
+{
+    wide(bytes[i])
+}
+
+fn word(bytes: &[u8], i: usize) -> u32
+    requires { ⌜ (i ≤ 12) × (i + 3 < length (now bytes)) ⌝ }
+    ensures { λ r. ⌜ r ≡ wordAt (now (bytes .entry)) i ⌝ }
+{
+    let low = byte(bytes, i) + byte(bytes, i + 1) * 256;
+    low + byte(bytes, i + 2) * 65536 + byte(bytes, i + 3) * 16777216
+}
+
+// The call of sixteen bytes, little-endian. One test of the length before all reads, so that the compiler makes four loads of it and puts it where it is called.
+pub fn decode(bytes: &[u8]) -> Call
+    ensures { λ r. ⌜ r ≡ callOf (now (bytes .entry)) ⌝ }
+{
+    if bytes.len() < 16 {
+        return padded(bytes);
+    }
+    let op = byte(bytes, 0);
+    let caller = byte(bytes, 1);
+    let a = byte(bytes, 2) + byte(bytes, 3) * 256;
+    let b = word(bytes, 4);
+    let c = word(bytes, 8);
+    let d = word(bytes, 12);
     Call {
         op,
         caller,
