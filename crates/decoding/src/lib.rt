@@ -35,8 +35,8 @@ fn word_at(bytes: &[u8], i: usize) -> u32
     low + byte_at(bytes, i + 2) * 65536 + byte_at(bytes, i + 3) * 16777216
 }
 
-// Bytes that are not there read as 0; whoever has fewer than sixteen says SHORT before.
-fn padded(bytes: &[u8]) -> Call
+// The call of sixteen bytes, little-endian, byte by byte. Bytes that are not there read as 0; whoever has fewer than sixteen says SHORT before.
+pub fn decode_bytewise(bytes: &[u8]) -> Call
     ensures { λ r. ⌜ r ≡ callOf (now (bytes .entry)) ⌝ }
 {
     let op = byte_at(bytes, 0);
@@ -70,12 +70,13 @@ fn word(bytes: &[u8], i: usize) -> u32
     low + byte(bytes, i + 2) * 65536 + byte(bytes, i + 3) * 16777216
 }
 
-// The call of sixteen bytes, little-endian. One test of the length before all reads, so that the compiler makes four loads of it and puts it where it is called.
+// The same for the loop over a log, which is fast: one test of the length before all reads, so that the compiler makes four loads of them. Called from one
+// place only, it is compiled into it; who has time calls the one above.
 pub fn decode(bytes: &[u8]) -> Call
     ensures { λ r. ⌜ r ≡ callOf (now (bytes .entry)) ⌝ }
 {
     if bytes.len() < 16 {
-        return padded(bytes);
+        return decode_bytewise(bytes);
     }
     let op = byte(bytes, 0);
     let caller = byte(bytes, 1);

@@ -224,7 +224,7 @@ fn put_part(text: &mut [u8], at: usize, bytes: &[u8]) -> usize
     if bytes.len() < CALL {
         return put_cut_off(text, at, bytes.len() as u32);
     }
-    put_call(text, at, decoding::decode(bytes))
+    put_call(text, at, decoding::decode_bytewise(bytes))
 }
 
 fn put_answer(text: &mut [u8], at: usize, code: u32, value: u32) -> usize

@@ -5,12 +5,12 @@ use Rattle.decoding.proofs.decode.Tie as tie
 use Rattle.decoding.proofs.decode.Reads as reads
 use Rattle.decoding.proofs.decode.Lts as lts
 use Rattle.decoding.proofs.byte.Reads as byte-reads
-use Rattle.decoding.proofs.padded.Reads as padded-reads
+use Rattle.decoding.proofs.decode_bytewise.Reads as decode-bytewise-reads
 use Rattle.decoding.proofs.word.Reads as word-reads
 
 -- src/lib.rt:78:9
-padded-requires : tie.Need-padded-requires
-padded-requires c κs = search needs
+decode-bytewise-requires : tie.Need-decode-bytewise-requires
+decode-bytewise-requires c κs = search needs
 
 -- src/lib.rt:78:9
 returns : tie.Need-returns
@@ -60,7 +60,7 @@ pub decode-spec : {M : Type 1} → statement M
 decode-spec =
     tie.close
     (tie.spec
-    padded-requires
+    decode-bytewise-requires
     returns
     byte-requires
     byte-requires-2

@@ -12,7 +12,7 @@ use Rattle.explain.proofs.put_part.Lts as lts
 use Rattle.explain.proofs.put_call.Reads as put-call-reads
 use Rattle.explain.proofs.put_cut_off.Reads as put-cut-off-reads
 use Rattle.explain.proofs.put_word.Reads as put-word-reads
-use Rattle.decoding.proofs.decode.Reads as decode-reads
+use Rattle.decoding.proofs.decode_bytewise.Reads as decode-bytewise-reads
 
 -- src/lib.rt:221:35
 slice-aggregate-put-word : tie.Need-slice-aggregate-put-word
@@ -49,8 +49,8 @@ unfolding partWords
 returns-2 c = known-as (search tests) ((c .before .before .put-cut-off .ensures))
 
 -- src/lib.rt:226:24
-decode-requires : tie.Need-decode-requires
-decode-requires c κs = search needs
+decode-bytewise-requires : tie.Need-decode-bytewise-requires
+decode-bytewise-requires c κs = search needs
 
 -- src/lib.rt:226:5
 put-call-requires : tie.Need-put-call-requires
@@ -63,7 +63,7 @@ same-length-3 c = search needs
 -- src/lib.rt:216:1
 returns-3 : tie.Need-returns-3
 unfolding partWords
-returns-3 c = known-as (ap callWords ((c .before .before .before .decode .ensures)) ∙ search tests) ((c .before .before .put-call .ensures))
+returns-3 c = known-as (ap callWords ((c .before .before .before .decode-bytewise .ensures)) ∙ search tests) ((c .before .before .put-call .ensures))
 
 pub put-part-spec : {M : Type 1} → statement M
 put-part-spec =
@@ -77,7 +77,7 @@ put-part-spec =
     put-cut-off-requires
     same-length-2
     returns-2
-    decode-requires
+    decode-bytewise-requires
     put-call-requires
     same-length-3
     returns-3)

@@ -1,8 +1,8 @@
 use borrow.Author.Needs.{needs}
-use Rattle.decoding.proofs.padded.Statement.{statement}
-use Rattle.decoding.proofs.padded.Tie as tie
-use Rattle.decoding.proofs.padded.Reads as reads
-use Rattle.decoding.proofs.padded.Lts as lts
+use Rattle.decoding.proofs.decode_bytewise.Statement.{statement}
+use Rattle.decoding.proofs.decode_bytewise.Tie as tie
+use Rattle.decoding.proofs.decode_bytewise.Reads as reads
+use Rattle.decoding.proofs.decode_bytewise.Lts as lts
 use Rattle.decoding.proofs.byte_at.Reads as byte-at-reads
 use Rattle.decoding.proofs.word_at.Reads as word-at-reads
 
@@ -46,8 +46,8 @@ word-at-requires-3 c κs = search needs
 returns : tie.Need-returns
 returns c = simp ((c .before .before .before .before .before .before .byte-at .ensures .0), (c .before .before .before .before .before .byte-at2 .ensures .0), (c .before .before .before .before .byte-at3 .ensures .0), (c .before .before .before .byte-at4 .ensures .0), (c .before .before .word-at .ensures), (c .before .word-at2 .ensures), (c .word-at3 .ensures))
 
-pub padded-spec : {M : Type 1} → statement M
-padded-spec =
+pub decode-bytewise-spec : {M : Type 1} → statement M
+decode-bytewise-spec =
     tie.close
     (tie.spec
     byte-at-requires
