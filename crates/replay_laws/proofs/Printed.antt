@@ -35,7 +35,7 @@ put-here out k a h =
     let m : length (set out (2 * k) (a .code)) ≡ length out = length-set out (2 * k) (a .code) in
     record {
       code = getD-set-other (set out (2 * k) (a .code)) (2 * k + 1) (2 * k) (a .value) 0 (λ e. omega arith) ∙ getD-set-same out (2 * k) (a .code) 0 (omega arith);
-      value = getD-set-same (set out (2 * k) (a .code)) (2 * k + 1) (a .value) 0 (omega (arith, m))
+      value = getD-set-same (set out (2 * k) (a .code)) (2 * k + 1) (a .value) 0 (omega (arith, m));
     }
 
 put-there : (out : List ℕ) (k j : ℕ) (a b : Answer) → j < k → At out j b → At (putAnswer out k a) j b
@@ -44,7 +44,7 @@ put-there out k j a b h p =
     let o : List ℕ = set out (2 * k) (a .code) in
     record {
       code = getD-set-other o (2 * k + 1) (2 * j) (a .value) 0 (λ e. omega arith) ∙ getD-set-other out (2 * k) (2 * j) (a .code) 0 (λ e. omega arith) ∙ p .code;
-      value = getD-set-other o (2 * k + 1) (2 * j + 1) (a .value) 0 (λ e. omega arith) ∙ getD-set-other out (2 * k) (2 * j + 1) (a .code) 0 (λ e. omega arith) ∙ p .value
+      value = getD-set-other o (2 * k + 1) (2 * j + 1) (a .value) 0 (λ e. omega arith) ∙ getD-set-other out (2 * k) (2 * j + 1) (a .code) 0 (λ e. omega arith) ∙ p .value;
     }
 
 -- after n parts the buffer holds the answer to each of them
