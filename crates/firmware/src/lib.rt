@@ -8,7 +8,7 @@ ghost use Rattle.answer.specs.declared.Errno.{Errno};
 ghost use Rattle.calls.specs.declared.Ran.{Ran};
 ghost use Rattle.calls.specs.Calls.{Called, Run};
 ghost use Rattle.image_write.specs.Encode.{Written};
-ghost use Rattle.mem_domain.specs.Partition.{windowOf, isValid, overlapOf};
+ghost use Rattle.mem_partition.specs.Partition.{windowOf, isValid, overlapOf};
 ghost use Rattle.mem_domain.specs.Domain.{added, removed, hasFree, containsAddr};
 ghost use Rattle.mem_domain.specs.declared.Got.{Got};
 ghost use Rattle.tables.specs.Table.{partitionOf};
@@ -19,7 +19,7 @@ use answer::Answer;
 use image_write::NUMBERS;
 use mem_domain::Changed;
 use mem_domain::Got;
-use mem_domain::MemPartition;
+use mem_partition::MemPartition;
 
 // One call; returns the answer's number.
 #[no_mangle]
@@ -236,7 +236,7 @@ pub extern "C" fn wardlatch_domain_contains(domain: &[u32], addr: u32, value: &m
 pub extern "C" fn wardlatch_partition_valid(start: u32, size: u32) -> bool
     ensures { λ r. ⌜ r ≡ isValid (windowOf start size) ⌝ }
 {
-    mem_domain::partition_valid_decide(start, size)
+    mem_partition::partition_valid_decide(start, size)
 }
 
 #[no_mangle]
@@ -248,7 +248,7 @@ pub extern "C" fn wardlatch_partitions_overlap(
 ) -> bool
     ensures { λ r. ⌜ r ≡ overlapOf (windowOf start size) (windowOf «other_start» «other_size») ⌝ }
 {
-    mem_domain::partitions_overlap_decide(start, size, other_start, other_size)
+    mem_partition::partitions_overlap_decide(start, size, other_start, other_size)
 }
 
 // The permission leaf, as userspace_c has it: only an archive's own crate exports.
