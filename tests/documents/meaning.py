@@ -1,6 +1,8 @@
-"""Which definitions the promises and the theorems rest on: names are followed from the contracts of public functions, and from the statements of theorems, through specs/ and proofs/.
+"""Which definitions the promises and the theorems rest on: names are followed from the contracts of public functions, and from the statements of theorems,
+through specs/ and proofs/.
 
-Read off the text, by each file's `use` lines. A theorem is followed by its statement alone; a definition, a record and a data type by all of it."""
+Read off the text, by each file's `use` lines. A theorem is followed by its statement alone, with what the modules around it assume; a definition, a
+record and a data type by all of it."""
 import glob, os, re
 
 NAME = re.compile(r'(?<![.\w])[^\s(){}.,;λ«»]+')  # a field's name, behind its dot, is none
@@ -10,8 +12,8 @@ FIELD = re.compile(r'^\s+(?:pub )?([^\s:(){}=]+) :(?: |$)')
 
 
 class Declared:
-    def __init__(self, name, theorem, lines):
-        self.name, self.theorem, self.lines, self.fields = name, theorem, lines, []
+    def __init__(self, name, theorem, lines, around):
+        self.name, self.theorem, self.lines, self.around, self.fields = name, theorem, lines, around, []
 
 
 def code(line):
@@ -20,7 +22,7 @@ def code(line):
 
 def declarations(text):
     """Every name that a file declares. A record's fields belong to it, what stands in a `where` to what stands above."""
-    out, now, record, open_ = {}, None, None, False
+    out, now, record, open_, modules = {}, None, None, False, []
     for line in map(code, text.split('\n')):
         if not line.strip():
             continue
@@ -30,12 +32,19 @@ def declarations(text):
             now.fields += FIELD.findall(line)
             continue
         record = None
+        # a module's parameters, of one line or more, are assumed by what stands in it
+        if modules and not modules[-1][1].endswith('where'):
+            modules[-1][1] += ' ' + line.strip()
+            continue
+        modules = [x for x in modules if x[0] < deep]
         m = DECLARES.match(line)
         if OTHER.match(line):
             now = None
+            if line.lstrip().startswith('module '):
+                modules.append([deep, line])
         elif m and (m.group(2) or m.group(3) or deep == 0):
             theorem = not m.group(3) and not re.search('unfoldable|abbrev', m.group(2))
-            now = out[m.group(4)] = Declared(m.group(4), theorem, [line])
+            now = out[m.group(4)] = Declared(m.group(4), theorem, [line], [x[1] for x in modules])
             open_ = True
             if m.group(3):
                 record = deep
@@ -83,7 +92,7 @@ class Meaning:
         if name not in own or key in self.seen:
             return
         self.seen.add(key)
-        for word in self.words('\n'.join(own[name].lines), own, brought):
+        for word in self.words('\n'.join(own[name].around + own[name].lines), own, brought):
             if word in own:
                 self.follow(crate, folder, module, word)
             elif word in brought:
