@@ -1,6 +1,6 @@
 // The rules of a state, and the one function that judges three lent tables by them: of any length, with any content.
 // Calls, image and writer answer VALUE by `keeps`. Promised: it says true exactly when document 01's rules hold (proofs/Rules.antt). One pass over each
-// table: the threads', which gathers who lives in a mask, so that "no dead thread holds a bit" is one test for each object.
+// table; that over the threads gathers in a mask who lives, so that "no dead thread holds a bit" is one test for each object.
 ghost use mathlib.Core.Path.{_≡_};
 ghost use mathlib.Core.Bool.{_||_};
 ghost use Prim.Native.Nat.{_+_, _*_, _<_, _≤_};

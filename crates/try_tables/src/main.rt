@@ -1,5 +1,5 @@
 // Runs a stored list of steps over three tables and prints what is loaded and how the state is judged. The list stands in `stdin`, four
-// little-endian words to a step: its number, a place, and two words of a value. tests/tables.py makes it, and works out `stdout` by a model.
+// little-endian words to a step: its number, a place, and two words of a value. tests/tables/cases.py makes it, and works out `stdout` by a model.
 ghost use Prim.Native.Nat.{_+_, _<_, _≤_};
 use libc::STDOUT_FILENO;
 use mem_partition::MemPartition;
