@@ -46,7 +46,7 @@ impl Seen {
     }
 }
 
-// The same slots for both.
+// The same slots for both. Each pointer lent below is to the 48 words or to a local.
 #[derive(Clone, Copy)]
 struct Both { words: [u32; 48], d: MemDomain }
 
