@@ -121,7 +121,7 @@ pub fn userspace(t: &mut Tally, r: &mut Rng, batches: u64, out: &str) -> std::io
 
 struct Board { d: MemDomain, steps: Vec<u8>, lines: String, left: usize }
 
-fn active(d: &MemDomain) -> u32 {
+pub fn active(d: &MemDomain) -> u32 {
     d.partitions.iter().filter(|p| p.size > 0).count() as u32
 }
 
@@ -185,7 +185,7 @@ fn windows(x: [u32; 4]) -> String {
 const KINDS: [(u32, u32); 10] = [(0, 0), (64, 0), (0, 1), (64, 32), (0xFFFFFFF0, 15), (0xFFFFFFF0, 16), (TOP, 0), (TOP, 1), (TOP, TOP), (0, TOP)];
 
 // Windows around a slot's edges.
-fn around(start: u32, size: u32) -> Vec<(u32, u32)> {
+pub fn around(start: u32, size: u32) -> Vec<(u32, u32)> {
     let end = start.wrapping_add(size);
     let starts = [start, start.wrapping_sub(1), start.wrapping_add(1), end, end.wrapping_sub(1), end.wrapping_add(1), 0, TOP];
     starts.into_iter().flat_map(|s| [(s, 0), (s, 1), (s, size), (s, TOP - s), (s, (TOP - s).wrapping_add(1))]).collect()

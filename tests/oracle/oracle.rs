@@ -1,6 +1,6 @@
 // Upstream as the oracle: gale's functions, their contracts stripped (bench/replay/strip), get the same inputs as the proved code, and every result is compared.
 //
-//     oracle linked SEED CASES               the static libraries in this process: the permission leaf, and domains by a log of calls
+//     oracle leaf|domains SEED CASES         the firmware's library in this process: the permission leaf and the errors; domains by calls and by themselves
 //     oracle userspace|mem_domain SEED BATCHES OUT   cases for try_userspace and try_mem_domain, with upstream's answers (batches.rs)
 //
 // Where the two are known to differ the other answer is worked out here and the case is counted by name, with the first input that met it; inputs come small
@@ -9,6 +9,7 @@
 use std::collections::BTreeMap;
 
 mod batches;
+mod domains;
 mod error;
 mod mem_domain;
 mod rng;
@@ -20,13 +21,22 @@ use rng::Rng;
 use upstream::{number, record, TYPES};
 use userspace::{InitCheck, KernelObject};
 
+// include/wardlatch.h says what each returns and leaves.
 extern "C" {
-    fn userspace_grant(word: *mut u64, tid: u32) -> u32;
-    fn userspace_revoke(word: *mut u64, tid: u32) -> u32;
-    fn userspace_recycle(flags: *mut u8, word: *mut u64, tid: u32) -> u32;
-    fn userspace_has_perm(word: u64, tid: u32, value: *mut u32) -> u32;
-    fn userspace_check_access(flags: u8, word: u64, tid: u32, supervisor: bool) -> bool;
-    fn userspace_validate(kind: u8, flags: u8, word: u64, expected: u8, tid: u32, supervisor: bool, mode: i32) -> u32;
+    fn wardlatch_grant(word: *mut u64, tid: u32) -> u32;
+    fn wardlatch_revoke(word: *mut u64, tid: u32) -> u32;
+    fn wardlatch_recycle(flags: *mut u8, word: *mut u64, tid: u32) -> u32;
+    fn wardlatch_has_perm(word: u64, tid: u32, value: *mut u32) -> u32;
+    fn wardlatch_check_access(flags: u8, word: u64, tid: u32, supervisor: bool) -> bool;
+    fn wardlatch_validate(kind: u8, flags: u8, word: u64, expected: u8, tid: u32, supervisor: bool, mode: i32) -> u32;
+    fn wardlatch_to_errno(answer: u32, value: *mut i32) -> u32;
+    fn wardlatch_domain_add(domain: *mut u32, domain_len: usize, start: u32, size: u32, attr: u32, slot: *mut u32) -> u32;
+    fn wardlatch_domain_remove(domain: *mut u32, domain_len: usize, start: u32, size: u32, slot: *mut u32) -> u32;
+    fn wardlatch_domain_get(domain: *const u32, domain_len: usize, index: u32, start: *mut u32, size: *mut u32, attr: *mut u32) -> u32;
+    fn wardlatch_domain_has_free(domain: *const u32, domain_len: usize, value: *mut u32) -> u32;
+    fn wardlatch_domain_contains(domain: *const u32, domain_len: usize, addr: u32, value: *mut u32) -> u32;
+    fn wardlatch_partition_valid(start: u32, size: u32) -> bool;
+    fn wardlatch_partitions_overlap(start: u32, size: u32, other_start: u32, other_size: u32) -> bool;
     fn wardlatch_run(
         objects: *mut u64, objects_len: usize, threads: *mut u32, threads_len: usize, slots: *mut u32, slots_len: usize,
         log: *const u8, log_len: usize, out: *mut u32, out_len: usize, answers: *mut usize,
@@ -117,11 +127,11 @@ fn bits(t: &mut Tally, flags: u8, word: u64, tid: u32) {
     let (mut granted, mut revoked) = (record(2, flags, word), record(2, flags, word));
     let wanted = [number(granted.grant_access(tid)), number(revoked.revoke_access(tid))];
     let (mut more, mut less) = (word, word);
-    let codes = unsafe { [userspace_grant(&mut more, tid), userspace_revoke(&mut less, tid)] };
+    let codes = unsafe { [wardlatch_grant(&mut more, tid), wardlatch_revoke(&mut less, tid)] };
     t.same((codes, more, less), (wanted, word_of(&granted), word_of(&revoked)), || at("grant and revoke"));
     let (mut new_flags, mut new_word, mut value) = (flags, word, 7);
-    let recycled = unsafe { userspace_recycle(&mut new_flags, &mut new_word, tid) };
-    let asked = unsafe { userspace_has_perm(word, tid, &mut value) };
+    let recycled = unsafe { wardlatch_recycle(&mut new_flags, &mut new_word, tid) };
+    let asked = unsafe { wardlatch_has_perm(word, tid, &mut value) };
     t.case();
     if tid >= 64 {
         // upstream demands a thread below 64 here, and would index behind its table
@@ -137,7 +147,7 @@ fn bits(t: &mut Tally, flags: u8, word: u64, tid: u32) {
 }
 
 fn judge(t: &mut Tally, o: &KernelObject, kind: u8, flags: u8, word: u64, expected: u8, tid: u32, supervisor: bool, mode: i32) {
-    let (ours, access) = unsafe { (userspace_validate(kind, flags, word, expected, tid, supervisor, mode), userspace_check_access(flags, word, tid, supervisor)) };
+    let (ours, access) = unsafe { (wardlatch_validate(kind, flags, word, expected, tid, supervisor, mode), wardlatch_check_access(flags, word, tid, supervisor)) };
     let wanted = (validate(o, expected, tid, supervisor, mode), o.check_access(tid, supervisor));
     t.case();
     t.same((ours, access), wanted, || format!("validate type {kind} flags {flags} word {word} expected {expected} thread {tid} supervisor {supervisor} mode {mode}"));
@@ -196,6 +206,20 @@ fn upstream_panics() -> bool {
     let query = std::panic::catch_unwind(|| record(2, 0, 0).has_perm(64)).is_err();
     let _ = std::panic::take_hook();
     recycle && query
+}
+
+// ---- the errors
+
+// Upstream's constants are the oracle for 0 to 6; no other answer has one.
+fn every_error(t: &mut Tally) {
+    let upstream = [error::OK, error::EINVAL, error::EPERM, error::EBADF, error::EADDRINUSE, error::ENOSPC, error::ENOENT];
+    for answer in (0..=20).chain(EXTREMES) {
+        let mut value = 7;
+        let code = unsafe { wardlatch_to_errno(answer, &mut value) };
+        let wanted = upstream.get(answer as usize).map_or((EINVAL, 0), |&errno| (0, errno));
+        t.case();
+        t.same((code, value), wanted, || format!("to_errno {answer}"));
+    }
 }
 
 // ---- domains, by calls
@@ -311,16 +335,20 @@ fn main() {
     let number = |k: usize| words.get(k).and_then(|w| w.parse::<u64>().ok()).expect("SEED and CASES are numbers");
     let (mut t, mut r) = (Tally::default(), Rng(number(1)));
     match words[0].as_str() {
-        "linked" => {
+        "leaf" => {
             assert!(upstream_panics(), "upstream answers where it demands a thread below 64");
+            every_error(&mut t);
             every_leaf_case(&mut t);
             println!("exhaustive\t{}", t.cases);
             random_leaf_cases(&mut t, &mut r, number(2));
+        }
+        "domains" => {
+            domains::compared(&mut t, &mut r, number(2));
             domain_cases(&mut t, &mut r, number(2));
         }
         "userspace" => batches::userspace(&mut t, &mut r, number(2), &words[3]).expect("the batches can be written"),
         "mem_domain" => batches::mem_domain(&mut t, &mut r, number(2), &words[3]).expect("the batches can be written"),
-        other => panic!("oracle {other}: linked, userspace or mem_domain"),
+        other => panic!("oracle {other}: leaf, domains, userspace or mem_domain"),
     }
     std::process::exit(if t.told() { 0 } else { 1 });
 }
