@@ -41,7 +41,7 @@ module _ (os ts ss bs : List ℕ) (n : answered os ts ss bs .code ≢ 0) where
       record {
         objects = ap (λ (s : State). flatObjects (s .objects)) p ∙ objects-back f;
         threads = ap (λ (s : State). flatThreads (s .threads)) p ∙ threads-back f;
-        slots = ap (λ (s : State). flatDomains (s .domains)) p ∙ domains-back f
+        slots = ap (λ (s : State). flatDomains (s .domains)) p ∙ domains-back f;
       }
 
 -- of `call`: an answer other than OK
