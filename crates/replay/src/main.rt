@@ -32,6 +32,10 @@ fn main() {
         explain();
         return;
     }
+    if is_option(&first[..n]) {
+        refuse_option();
+        return;
+    }
     complain(b"replay: one image file is needed; replay --help says more\n");
 }
 
@@ -42,7 +46,7 @@ fn alone(first: &[u8]) {
         return;
     }
     if is_option(first) {
-        complain(b"replay: no such option, or no image file; replay --help says more\n");
+        refuse_option();
         return;
     }
     open(first, false);
@@ -73,6 +77,10 @@ fn is_word(a: &[u8], b: &[u8]) -> bool {
         i += 1;
     }
     true
+}
+
+fn refuse_option() {
+    complain(b"replay: no such option, or not one image file; replay --help says more\n");
 }
 
 fn complain(line: &[u8]) {
