@@ -80,7 +80,8 @@ impl Leaf {
         let bit = if s.n < 64 { format!("0 {}", self.o.has_perm(s.n) as u8) } else { format!("{EINVAL} 0") };
         if s.n >= 64 { t.known(FAR_QUERY, || format!("thread {}", s.n)); }
         let o = &self.o;
-        format!("ask {} {} {} {bit} {} \n", yes(o.check_access(s.n, s.a == 1)), yes(o.is_initialized()), yes(o.is_public()), o.obj_type_get() as u8)
+        let flags = [o.is_initialized(), o.is_public(), o.flag_alloc, o.flag_driver].map(yes).join(" ");
+        format!("ask {} {flags} {bit} {} \n", yes(o.check_access(s.n, s.a == 1)), o.obj_type_get() as u8)
     }
 }
 

@@ -88,7 +88,7 @@ def step(o, op, a, b, c, n, w):
         return o, 'make-public ' + o.text()
     if op == 10:
         query = f'{OK} {int(o.perms[n])}' if n < 64 else f'{EINVAL} 0'
-        return o, f'ask {yes(o.access(n, a == 1))} {yes(o.initialised)} {yes(o.public)} {query} {o.kind} '
+        return o, f'ask {yes(o.access(n, a == 1))} {yes(o.initialised)} {yes(o.public)} {yes(o.rest & 4 == 4)} {yes(o.rest & 8 == 8)} {query} {o.kind} '
     if op == 11:
         return o, f'validate {o.validate(a, n, b == 1, {0: 0, 1: -1}.get(c, 1))} '
     if op == 12:

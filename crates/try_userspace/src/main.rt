@@ -96,6 +96,8 @@ fn asks(o: KernelObject, n: u32, supervisor: bool) {
     truth(o.check_access(n, supervisor));
     truth(o.is_initialized());
     truth(o.is_public());
+    truth(o.is_alloc());
+    truth(o.is_driver());
     let r = o.has_perm(n);
     figure(r.code);
     figure(r.value);

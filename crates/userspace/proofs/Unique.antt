@@ -19,6 +19,8 @@ use Rattle.userspace.proofs.KernelObject.recycle.Reads as recycle
 use Rattle.userspace.proofs.KernelObject.make_public.Reads as make-public
 use Rattle.userspace.proofs.KernelObject.is_initialized.Reads as is-initialized
 use Rattle.userspace.proofs.KernelObject.is_public.Reads as is-public
+use Rattle.userspace.proofs.KernelObject.is_alloc.Reads as is-alloc
+use Rattle.userspace.proofs.KernelObject.is_driver.Reads as is-driver
 use Rattle.userspace.proofs.KernelObject.has_perm.Reads as has-perm
 use Rattle.userspace.proofs.KernelObject.obj_type_get.Reads as obj-type-get
 
@@ -73,6 +75,14 @@ is-initialized-unique a r₁ r₂ s₁ s₂ p q = p ∙ sym q
 pub is-public-unique :
     (a : _) (r₁ r₂ : Bool) (s₁ s₂ : _) → is-public.Post (tt {0}) a r₁ s₁ → is-public.Post (tt {0}) a r₂ s₂ → r₁ ≡ r₂
 is-public-unique a r₁ r₂ s₁ s₂ p q = p ∙ sym q
+
+pub is-alloc-unique :
+    (a : _) (r₁ r₂ : Bool) (s₁ s₂ : _) → is-alloc.Post (tt {0}) a r₁ s₁ → is-alloc.Post (tt {0}) a r₂ s₂ → r₁ ≡ r₂
+is-alloc-unique a r₁ r₂ s₁ s₂ p q = p ∙ sym q
+
+pub is-driver-unique :
+    (a : _) (r₁ r₂ : Bool) (s₁ s₂ : _) → is-driver.Post (tt {0}) a r₁ s₁ → is-driver.Post (tt {0}) a r₂ s₂ → r₁ ≡ r₂
+is-driver-unique a r₁ r₂ s₁ s₂ p q = p ∙ sym q
 
 pub has-perm-unique :
     (a : _) (r₁ r₂ : Answer) (s₁ s₂ : _) → has-perm.Post (tt {0}) a r₁ s₁ → has-perm.Post (tt {0}) a r₂ s₂ → r₁ ≡ r₂

@@ -15,8 +15,8 @@ use Rattle.userspace.specs.declared.Changed.{Changed}
 use Rattle.userspace_decide.specs.declared.Validated.{Validated}
 use Rattle.userspace_decide.specs.declared.Validated.the-variants.{Ok, Refused}
 use Rattle.bits.specs.Bit.{isSet}
-use Rattle.userspace_decide.specs.Decide.{INITIALISED, PUBLIC, ALLOC, DRIVER, answerOf}
-use Rattle.userspace.specs.Userspace.{THREADS, granted, revoked, clearedAll, recycled, initiated, uninitiated, published, newObject, access, validated, initialised, public, bitAnswer}
+use Rattle.userspace_decide.specs.Decide.{answerOf}
+use Rattle.userspace.specs.Userspace.{THREADS, granted, revoked, clearedAll, recycled, initiated, uninitiated, published, newObject, access, validated, initialised, public, allocated, driver, bitAnswer}
 
 -- ---- upstream's record
 
@@ -144,10 +144,10 @@ unfoldable pub tableOf : KernelObject → Table
 tableOf o =
     record {
       kind = o .«obj_type»;
-      flag-initialized = isSet (o .flags) INITIALISED;
-      flag-public = isSet (o .flags) PUBLIC;
-      flag-alloc = isSet (o .flags) ALLOC;
-      flag-driver = isSet (o .flags) DRIVER;
+      flag-initialized = initialised o;
+      flag-public = public o;
+      flag-alloc = allocated o;
+      flag-driver = driver o;
       thread-perms = permsOf (o .word);
     }
 

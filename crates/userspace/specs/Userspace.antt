@@ -10,7 +10,7 @@ use Rattle.userspace_names.specs.declared.ObjType.the-variants.{Any}
 use Rattle.userspace_names.specs.declared.InitCheck.{InitCheck}
 use Rattle.userspace_names.specs.Names.{typeNumber}
 use Rattle.userspace_decide.specs.declared.Validated.{Validated}
-use Rattle.userspace_decide.specs.Decide.{INITIALISED, PUBLIC, judged}
+use Rattle.userspace_decide.specs.Decide.{INITIALISED, PUBLIC, ALLOC, DRIVER, judged}
 use Rattle.userspace.specs.declared.KernelObject.{KernelObject}
 use Rattle.userspace.specs.declared.Changed.{Changed}
 
@@ -27,6 +27,14 @@ initialised o = isSet (o .flags) INITIALISED
 -- the public flag is set
 abbrev pub public : KernelObject → Bool
 public o = isSet (o .flags) PUBLIC
+
+-- the alloc flag is set
+abbrev pub allocated : KernelObject → Bool
+allocated o = isSet (o .flags) ALLOC
+
+-- the driver flag is set
+abbrev pub driver : KernelObject → Bool
+driver o = isSet (o .flags) DRIVER
 
 -- thread t's bit, t < 64; a thread from 64 on has none
 unfoldable pub holds : KernelObject → ℕ → Bool

@@ -3,7 +3,7 @@
 // definition of specs/Userspace for every record taken literally and every number; a thread from 64 on is
 // refused with EINVAL and the record comes back unchanged; the word acts as upstream's table (proofs/Table).
 ghost use mathlib.Core.Path.{_≡_};
-ghost use Rattle.userspace.specs.Userspace.{bitAt, withBit, withoutBit, withWord, withFlags, public, initialised, changedAt, newObject, granted, revoked, clearedAll, access, typeFits, validated, initiated, uninitiated, recycled, published, bitAnswer};
+ghost use Rattle.userspace.specs.Userspace.{bitAt, withBit, withoutBit, withWord, withFlags, public, initialised, allocated, driver, changedAt, newObject, granted, revoked, clearedAll, access, typeFits, validated, initiated, uninitiated, recycled, published, bitAnswer};
 use answer::Answer;
 use userspace_decide::Validated;
 use userspace_names::InitCheck;
@@ -203,6 +203,19 @@ impl KernelObject {
         ensures { λ r. ⌜ r ≡ public self ⌝ }
     {
         self.flags & Self::PUBLIC != 0
+    }
+
+    // Upstream's record has these two as fields of their own, for everybody to read.
+    pub fn is_alloc(self) -> bool
+        ensures { λ r. ⌜ r ≡ allocated self ⌝ }
+    {
+        self.flags & Self::ALLOC != 0
+    }
+
+    pub fn is_driver(self) -> bool
+        ensures { λ r. ⌜ r ≡ driver self ⌝ }
+    {
+        self.flags & Self::DRIVER != 0
     }
 
     pub fn has_perm(self, tid: u32) -> Answer
