@@ -10,8 +10,9 @@ use mathlib.Core.List.{List, [], _∷_, _++_}
 use lib.ListN.{getD}
 use Rattle.answer.specs.declared.Answer.{Answer}
 use Rattle.answer.specs.declared.Code.{Code}
-use Rattle.answer.specs.declared.Code.the-variants.{Ok}
+use Rattle.answer.specs.declared.Code.the-variants.{Ok, Einval, Eperm, Ebadf, Eaddrinuse, Enospc, Enoent}
 use Rattle.answer.specs.Answer.{numberOf, codeOf}
+use Rattle.answer.specs.Given.{oneOf}
 use Rattle.answer.proofs.Cases.{code-of-number}
 use Rattle.judging.specs.Judge.{refused, _⇒_⨾_}
 
@@ -117,21 +118,30 @@ first-unique (x ∷ l) (suc i) (suc j) f g =
 
 -- ---- codes
 
--- no test refuses with OK
+-- what a test refuses with: upstream's six errors
+abbrev pub refusals : List Code
+refusals = Einval ∷ Eperm ∷ Ebadf ∷ Eaddrinuse ∷ Enospc ∷ Enoent ∷ []
+
 unfoldable pub Refusals : List Test → Type 0
 Refusals [] = Unit {0}
-Refusals (x ∷ l) = (0 < numberOf (x .1)) × Refusals l
+Refusals (x ∷ l) = (oneOf refusals (numberOf (x .1)) ≡ true) × Refusals l
 
 pub refusals-append : (l m : List Test) → Refusals l → Refusals m → Refusals (l ++ m)
 unfolding Refusals
 refusals-append [] m f g = g
 refusals-append (x ∷ l) m f g = (f .0, refusals-append l m (f .1) g)
 
-refusal-at : (l : List Test) (i : ℕ) → Refusals l → testAt l i .0 ≡ true → 0 < numberOf (testAt l i .1)
+pub refusal-at : (l : List Test) (i : ℕ) → Refusals l → testAt l i .0 ≡ true → oneOf refusals (numberOf (testAt l i .1)) ≡ true
 unfolding Refusals
 refusal-at [] i f e = absurd (false≢true e)
 refusal-at (x ∷ l) zero f e = f .0
 refusal-at (x ∷ l) (suc i) f e = refusal-at l i (f .1) e
+
+-- none of them is OK
+not-ok : (n : ℕ) → oneOf refusals n ≡ true → 0 < n
+unfolding oneOf
+not-ok zero e = absurd (false≢true e)
+not-ok (suc n) e = zero-lt-suc n
 
 -- two names with one number are one
 pub same-name : (m n : Code) → numberOf m ≡ numberOf n → m ≡ n
@@ -153,7 +163,7 @@ module _ (l : List Test) (rest : Answer) (r : Refusals l) where
   ok-exactly = (go (verdict l), λ p. ap (λ a. a .code) (lets l rest (p .0)) ∙ p .1)
     where
       go : Verdict l → firstOf l rest .code ≡ 0 → None l × (rest .code ≡ 0)
-      go (by i f) e = absurd (omega (arith, ap (λ a. a .code) (refuses l rest i f), refusal-at l i r (f .holds)))
+      go (by i f) e = absurd (omega (arith, ap (λ a. a .code) (refuses l rest i f), not-ok _ (refusal-at l i r (f .holds))))
       go (none f) e = (f, ap (λ a. a .code) (sym (lets l rest f)) ∙ e)
 
   -- a refusal with n exactly when the first test that holds has n, where what stands behind is OK

@@ -7,13 +7,14 @@ use mathlib.Core.Path.{_≡_, refl, sym, ap, _∙_}
 use mathlib.Core.Logic.{_↔_, _⊎_, inl, inr, ⊎-elim, _≢_}
 use mathlib.Core.Bool.{Bool, true, false, cond, not, _&&_, _||_, true≢false}
 use mathlib.Core.List.{List, [], _∷_, _++_}
-use lib.Dec.{eqb, ltb, leb, lit<}
+use lib.Dec.{eqb, ltb, leb}
 use lib.ListN.{length}
 use borrow.Author.Tests.{not-false, lt-ltb, le-ltb, lt-leb, leb-false}
 use Rattle.answer.specs.declared.Answer.{Answer}
 use Rattle.answer.specs.declared.Code.{Code}
-use Rattle.answer.specs.declared.Code.the-variants.{Einval, Eperm, Ebadf, Eaddrinuse, Enospc, Enoent, Short}
+use Rattle.answer.specs.declared.Code.the-variants.{Ok, Einval, Eperm, Ebadf, Eaddrinuse, Enospc, Enoent, Short}
 use Rattle.answer.specs.Answer.{numberOf}
+use Rattle.answer.specs.Given.{oneOf, either, one-of-more}
 use Rattle.mem_partition.specs.declared.MemPartition.{MemPartition}
 use Rattle.mem_domain.specs.Domain.{addable, hasFree, hasWindow, lowestFree, lowestWindow, withCount, changedAt, added, removed}
 use Rattle.userspace_names.specs.declared.InitCheck.the-variants.{MustBeInit, MustNotBeInit}
@@ -27,7 +28,7 @@ use Rattle.decoding.specs.declared.Call.{Call}
 use Rattle.decoding.specs.Calls.{create, delete, revoke, init, uninit, recycle, publish, thread as newThread, end, inherit, assign, add, remove, Op, validate, grant, release, check, exit, sup, unknown, opOf, callOf}
 use Rattle.judging.specs.Judge.{done, refused, _⇒_⨾_, live, supervisor, typeOf, mayUse, serves, modeOf, wellFormed, partitionOf, slotAnswer, Use, noHandle, taken, free, useOf, withHandle, rule, supRule, isUnknown, isPrivileged, judgeOp, judge, heard}
 use Rattle.judging.specs.Change.{change, after, left}
-use Rattle.call_laws.proofs.Cascade.{stop, pass, past, Test, firstOf, testAt, FirstAt, None, Verdict, by, none, verdict, refuses, lets, Refusals, refusals-append, By, same-name, ok-exactly, code-exactly}
+use Rattle.call_laws.proofs.Cascade.{stop, pass, past, Test, firstOf, testAt, FirstAt, None, Verdict, by, none, verdict, refuses, lets, refusals, Refusals, refusals-append, refusal-at, By, same-name, ok-exactly, code-exactly}
 use Rattle.call_laws.proofs.Bytes.{Least, run-all, run-least}
 use Rattle.call_laws.proofs.Conditions.{Mode, Fields, fields-iff}
 
@@ -198,38 +199,38 @@ judge-order s c =
 -- ---- the laws of the order
 
 handle-codes : (u : Use) (s : State) (h : ℕ) → Refusals (handleTests u s h)
-unfolding handleTests Refusals
+unfolding handleTests Refusals oneOf
 handle-codes noHandle s h = tt
-handle-codes taken s h = (lit< tt, (lit< tt, tt))
-handle-codes free s h = (lit< tt, (lit< tt, tt))
+handle-codes taken s h = (refl, (refl, tt))
+handle-codes free s h = (refl, (refl, tt))
 
 rule-codes : (o : Op) (s : State) (c : Call) → Refusals (ruleTests o s c)
-unfolding ruleTests Refusals
-rule-codes validate s c = (lit< tt, (lit< tt, (lit< tt, (lit< tt, tt))))
-rule-codes grant s c = (lit< tt, (lit< tt, (lit< tt, tt)))
-rule-codes release s c = (lit< tt, tt)
-rule-codes check s c = (lit< tt, tt)
+unfolding ruleTests Refusals oneOf
+rule-codes validate s c = (refl, (refl, (refl, (refl, tt))))
+rule-codes grant s c = (refl, (refl, (refl, tt)))
+rule-codes release s c = (refl, tt)
+rule-codes check s c = (refl, tt)
 rule-codes exit s c = tt
 rule-codes (sup create) s c = tt
-rule-codes (sup delete) s c = (lit< tt, tt)
-rule-codes (sup revoke) s c = (lit< tt, tt)
+rule-codes (sup delete) s c = (refl, tt)
+rule-codes (sup revoke) s c = (refl, tt)
 rule-codes (sup init) s c = tt
 rule-codes (sup uninit) s c = tt
 rule-codes (sup recycle) s c = tt
 rule-codes (sup publish) s c = tt
-rule-codes (sup newThread) s c = (lit< tt, (lit< tt, (lit< tt, tt)))
-rule-codes (sup end) s c = (lit< tt, tt)
-rule-codes (sup inherit) s c = (lit< tt, (lit< tt, tt))
-rule-codes (sup assign) s c = (lit< tt, tt)
-rule-codes (sup add) s c = (lit< tt, (lit< tt, tt))
-rule-codes (sup remove) s c = (lit< tt, tt)
-rule-codes unknown s c = (lit< tt, tt)
+rule-codes (sup newThread) s c = (refl, (refl, (refl, tt)))
+rule-codes (sup end) s c = (refl, tt)
+rule-codes (sup inherit) s c = (refl, (refl, tt))
+rule-codes (sup assign) s c = (refl, tt)
+rule-codes (sup add) s c = (refl, (refl, tt))
+rule-codes (sup remove) s c = (refl, tt)
+rule-codes unknown s c = (refl, tt)
 
 order-codes : (s : State) (c : Call) → Refusals (order s c)
-unfolding order Refusals
+unfolding order Refusals oneOf
 order-codes s c =
     let o = opOf (c .op) in
-    (lit< tt, (lit< tt, (lit< tt, (lit< tt, (lit< tt, refusals-append (handleTests (useOf o) s (c .a)) (ruleTests o s c) (handle-codes (useOf o) s (c .a)) (rule-codes o s c))))))
+    (refl, (refl, (refl, (refl, (refl, refusals-append (handleTests (useOf o) s (c .a)) (ruleTests o s c) (handle-codes (useOf o) s (c .a)) (rule-codes o s c))))))
 
 -- the answer where none refuses is OK, but for the memory check's walk
 ends-ok : (o : Op) (s : State) (c : Call) → o ≢ check → ending o s c .code ≡ 0
@@ -387,6 +388,56 @@ refused-value s c n o = go (verdict (order s c))
     go : Verdict (order s c) → judge s c .value ≡ 0
     go (by i f) = ap (λ a. a .value) (refused-when s c i f)
     go (none f) = absurd (n (ap (λ a. a .code) (ended-when s c f) ∙ ends-ok (opOf (c .op)) s c o))
+
+-- ---- which answers there are at all
+
+ending-given : (o : Op) (s : State) (c : Call) → oneOf (Ok ∷ refusals) (ending o s c .code) ≡ true
+unfolding ending reached oneOf
+ending-given validate s c = refl
+ending-given grant s c = refl
+ending-given release s c = refl
+ending-given check s c =
+    either (λ (a : Answer). a .code) (Ok ∷ refusals) (supervisor s (c .caller)) _ _ refl
+    (either (λ (a : Answer). a .code) (Ok ∷ refusals) (leb (c .c) (coveredRun (slotsOf s c) (eqb (c .d) 1) (c .b) (c .c))) _ _ refl refl)
+ending-given exit s c = refl
+ending-given (sup create) s c = refl
+ending-given (sup delete) s c = refl
+ending-given (sup revoke) s c = refl
+ending-given (sup init) s c = refl
+ending-given (sup uninit) s c = refl
+ending-given (sup recycle) s c = refl
+ending-given (sup publish) s c = refl
+ending-given (sup newThread) s c = refl
+ending-given (sup end) s c = refl
+ending-given (sup inherit) s c = refl
+ending-given (sup assign) s c = refl
+ending-given (sup add) s c = refl
+ending-given (sup remove) s c = refl
+ending-given unknown s c = refl
+
+behind-ok : (n : ℕ) → oneOf refusals n ≡ true → oneOf (Ok ∷ refusals) n ≡ true
+unfolding oneOf
+behind-ok n e = rw e (or-true (eqb n 0))
+  where
+    or-true : (a : Bool) → (a || true) ≡ true
+    or-true true = refl
+    or-true false = refl
+
+-- a call of sixteen bytes: OK or one of the six
+pub judge-given : (s : State) (c : Call) → oneOf (Ok ∷ refusals) (judge s c .code) ≡ true
+judge-given s c = go (verdict (order s c))
+  where
+    go : Verdict (order s c) → oneOf (Ok ∷ refusals) (judge s c .code) ≡ true
+    go (by i f) = rw (ap (λ a. a .code) (refused-when s c i f)) (behind-ok (numberOf (testAt (order s c) i .1)) (refusal-at (order s c) i (order-codes s c) (f .holds)))
+    go (none f) = rw (ap (λ a. a .code) (ended-when s c f)) (ending-given (opOf (c .op)) s c)
+
+-- any bytes: those, or SHORT
+pub heard-given : (s : State) (bs : List ℕ) → oneOf (Ok ∷ refusals ++ (Short ∷ [])) (heard s bs .code) ≡ true
+unfolding heard _⇒_⨾_ oneOf
+heard-given s bs =
+    either (λ (a : Answer). a .code) (Ok ∷ refusals ++ (Short ∷ [])) (ltb (length bs) 16) _ _ refl
+    (either (λ (a : Answer). a .code) (Ok ∷ refusals ++ (Short ∷ [])) (ltb 16 (length bs)) _ _ refl
+    (one-of-more (Ok ∷ refusals) (Short ∷ []) (judge s (callOf bs) .code) (judge-given s (callOf bs))))
 
 -- ---- bytes as they come
 

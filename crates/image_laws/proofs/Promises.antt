@@ -3,18 +3,21 @@ use mathlib.Core.Path.{_≡_, refl, sym, ap, _∙_}
 use Prim.Native.Nat.{ℕ, _≤_}
 use native.Mathlib.Omega.{arith}
 use mathlib.Core.Bool.{Bool, true, false, cond, not}
-use mathlib.Core.List.{List, [], _++_}
+use mathlib.Core.List.{List, [], _∷_, _++_}
 use lib.Dec.{eqb, ltb}
 use lib.ListN.{length, take, drop}
 use lib.Seq.{take-append-seam, length-take-le}
 use borrow.Author.Tests.{le-ltb, ne-eqb}
 use Rattle.answer.specs.Answer.{numberOf}
 use Rattle.answer.specs.declared.Answer.{Answer}
-use Rattle.answer.specs.declared.Code.the-variants.{Ok, Value, Room}
+use Rattle.answer.specs.declared.Code.{Code}
+use Rattle.answer.specs.declared.Code.the-variants.{Ok, Short, Magic, Value, Room}
+use Rattle.answer.specs.Given.{oneOf, either}
 use Rattle.rules.specs.Rules.{Sound, keepsTest}
 use Rattle.rules.proofs.Rules.{test-sound, sound-test}
+use Rattle.image_write.specs.Bytes.{magic}
 use Rattle.image_write.specs.Encode.{encode, refusal, written, bytesAfter, Written}
-use Rattle.image.specs.Read.{totalOf, readObjects, readThreads, readSlots, sized, imageCode, readCode, ReadIs}
+use Rattle.image.specs.Read.{objectCount, threadCount, domainCount, totalOf, readObjects, readThreads, readSlots, eqs, fieldsOk, headed, accepted, sized, imageCode, readCode, ReadIs}
 use Rattle.image.proofs.Answers.{head-is}
 use Rattle.image_laws.proofs.Round.{Back, image-ok, read-written, read-sound, written-read}
 
@@ -106,3 +109,39 @@ writes-what-was-read {b} {o₀} {t₀} {s₀} {os} {ts} {ss} {part} {before} p e
     let n : length (encode os ts ss) ≡ totalOf b = ap length c ∙ length-take-le (totalOf b) b (h .whole) in
     let k = written-ok w (read-keeps p e) (rw n l) in
     (k, written-long w k ∙ n, rw (written-bytes w k, ← n) (take-append-seam (encode os ts ss) (drop (length (encode os ts ss)) before)) ∙ c)
+
+-- ---- which answers there are at all
+
+-- of `write`: OK, VALUE, ROOM
+abbrev pub writeCodes : List Code
+writeCodes = Ok ∷ Value ∷ Room ∷ []
+
+written-given : (os ts ss : List ℕ) (room : ℕ) → oneOf writeCodes (written os ts ss room .code) ≡ true
+unfolding written oneOf
+written-given os ts ss room =
+    either (λ (a : Answer). a .code) writeCodes (not (keepsTest os ts ss)) _ _ refl
+    (either (λ (a : Answer). a .code) writeCodes (ltb room (length (encode os ts ss))) _ _ refl refl)
+
+pub write-given : {os ts ss before after : List ℕ} {r : Answer} → Written os ts ss before after r → oneOf writeCodes (r .code) ≡ true
+write-given {os} {ts} {ss} {before} w = rw (ap (λ (a : Answer). a .code) (w .answer)) (written-given os ts ss (length before))
+
+-- of `read`: OK, SHORT, MAGIC, VALUE
+abbrev pub readCodes : List Code
+readCodes = Ok ∷ Short ∷ Magic ∷ Value ∷ []
+
+headed-given : (b : List ℕ) (contents : ℕ) → oneOf readCodes contents ≡ true → oneOf readCodes (headed b contents) ≡ true
+unfolding headed oneOf
+headed-given b contents e =
+    either (λ (n : ℕ). n) readCodes (ltb (length b) 16) _ _ refl
+    (either (λ (n : ℕ). n) readCodes (not (eqs (take 8 b) magic)) _ _ refl
+    (either (λ (n : ℕ). n) readCodes (not (fieldsOk (objectCount b) (threadCount b) (domainCount b) (totalOf b))) _ _ refl
+    (either (λ (n : ℕ). n) readCodes (ltb (length b) (totalOf b)) _ _ refl e)))
+
+read-code-given : (b os ts ss : List ℕ) → oneOf readCodes (readCode b os ts ss) ≡ true
+unfolding readCode imageCode oneOf
+read-code-given b os ts ss =
+    either (λ (n : ℕ). n) readCodes (sized (length os) (length ts) (length ss)) _ _
+    (headed-given b _ (either (λ (n : ℕ). n) readCodes (accepted b) _ _ refl refl)) refl
+
+pub read-given : {b os ts ss os′ ts′ ss′ part : List ℕ} {code : ℕ} → ReadIs b os ts ss os′ ts′ ss′ part code → oneOf readCodes code ≡ true
+read-given {b} {os} {ts} {ss} r = rw (r .answer) (read-code-given b os ts ss)

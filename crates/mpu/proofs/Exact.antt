@@ -1,12 +1,14 @@
 -- When the checker gives which answer, in words about every address: each answer exactly when its sentence holds.
 use Prim.Native.Nat.{ℕ, _<_}
 use mathlib.Core.Path.{_≡_, refl, ap}
-use mathlib.Core.List.{List}
+use mathlib.Core.List.{List, [], _∷_}
 use mathlib.Core.Bool.{Bool, true, false, cond, not, _&&_}
 use native.Mathlib.Omega.{arith}
 use borrow.Author.Tests.{eqb-true, eqb-false, eq-eqb, ne-eqb}
 use Rattle.answer.specs.declared.Answer.{Answer}
+use Rattle.answer.specs.declared.Code.{Code}
 use Rattle.answer.specs.declared.Code.the-variants.{Ok, Value, Differs}
+use Rattle.answer.specs.Given.{oneOf, either}
 use Rattle.mem_partition.specs.declared.MemPartition.{MemPartition}
 use Rattle.mem_domain.specs.declared.MemDomain.{MemDomain}
 use Rattle.domain_rules.specs.Sound.{domainSound}
@@ -94,3 +96,13 @@ module _ (d : MemDomain) (plan : List ℕ) where
   pub value-when : formed ≡ false → checked d plan ≡ plain Value
   unfolding checked
   value-when f = rw f
+
+-- which answers there are at all: OK, VALUE, DIFFERS
+abbrev pub checkCodes : List Code
+checkCodes = Ok ∷ Value ∷ Differs ∷ []
+
+pub check-given : (d : MemDomain) (plan : List ℕ) → oneOf checkCodes (checked d plan .code) ≡ true
+unfolding checked oneOf
+check-given d plan =
+    either (λ (a : Answer). a .code) checkCodes (not (domainSound d && planOk plan)) _ _ refl
+    (either (λ (a : Answer). a .code) checkCodes (sameRights (d .partitions) plan) _ _ refl refl)

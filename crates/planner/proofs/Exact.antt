@@ -1,7 +1,7 @@
 -- The planner's promises in document 01's words: what it hands out is accepted by the checker, and NOPLAN exactly where it must say so.
 use Prim.Native.Nat.{ℕ, _+_, _%_, _^_, _<_, _≤_}
 use mathlib.Core.Path.{_≡_, refl, ap}
-use mathlib.Core.List.{List}
+use mathlib.Core.List.{List, [], _∷_}
 use mathlib.Core.Bool.{Bool, true, false, cond, not, _||_}
 use mathlib.Core.Logic.{_⊎_, inl, inr}
 use native.Mathlib.Omega.{arith}
@@ -11,16 +11,18 @@ use lib.ListN.{length, take, drop}
 use lib.Seq.{take-at}
 use Rattle.answer.specs.Answer.{numberOf}
 use Rattle.answer.specs.declared.Answer.{Answer}
+use Rattle.answer.specs.declared.Code.{Code}
 use Rattle.answer.specs.declared.Code.the-variants.{Ok, Einval, Value, Noplan, Room}
+use Rattle.answer.specs.Given.{oneOf, either}
 use Rattle.mem_partition.specs.Partition.{isFree}
 use Rattle.mem_domain.specs.Domain.{slotAt, activeCount}
 use Rattle.mem_partition.specs.declared.MemPartition.{MemPartition}
 use Rattle.mem_domain.specs.declared.MemDomain.{MemDomain}
 use Rattle.domain_rules.specs.Sound.{domainSound}
-use Rattle.mpu.specs.Mpu.{plain, checked}
+use Rattle.mpu.specs.Mpu.{maxRegions, plain, checked}
 use Rattle.domain_rules.proofs.All.{all-fails}
 use Rattle.mpu.proofs.Table.{all-false, both-false}
-use Rattle.planner.specs.Planner.{isRegion, slotFits, slotsFit, planOf, wordCount, planned, wordsAfter}
+use Rattle.planner.specs.Planner.{isRegion, slotFits, slotsFit, planOf, wordCount, planned, wordsAfter, Planned}
 use Rattle.planner.proofs.Bits.{field-of}
 use Rattle.planner.proofs.Filled.{plan-length}
 use Rattle.planner.proofs.Answers.{unfit, few, good}
@@ -138,3 +140,18 @@ module _ (d : MemDomain) (regions room : ℕ) where
 pub region-when : (p : MemPartition) (s : ℕ) → 4 ≤ s → s < 32 → 2 ^ (s + 1) ≡ p .size → p .start % p .size ≡ 0 → isRegion p ≡ true
 unfolding isRegion
 region-when p s l h e m = rw (field-of s (p .size) h e, le-leb 4 s l, eq-eqb _ _ m)
+
+-- which answers there are at all: OK, VALUE, EINVAL, NOPLAN, ROOM
+abbrev pub planCodes : List Code
+planCodes = Ok ∷ Value ∷ Einval ∷ Noplan ∷ Room ∷ []
+
+planned-given : (d : MemDomain) (regions room : ℕ) → oneOf planCodes (planned d regions room .code) ≡ true
+unfolding planned oneOf
+planned-given d regions room =
+    either (λ (a : Answer). a .code) planCodes (not (domainSound d)) _ _ refl
+    (either (λ (a : Answer). a .code) planCodes (ltb maxRegions regions) _ _ refl
+    (either (λ (a : Answer). a .code) planCodes (not (slotsFit (d .partitions)) || ltb regions (activeCount (d .partitions))) _ _ refl
+    (either (λ (a : Answer). a .code) planCodes (ltb room (wordCount (d .partitions))) _ _ refl refl)))
+
+pub plan-given : {d : MemDomain} {regions : ℕ} {before after : List ℕ} {r : Answer} → Planned d regions before after r → oneOf planCodes (r .code) ≡ true
+plan-given {d} {regions} {before} p = rw (ap (λ (a : Answer). a .code) (p .answer)) (planned-given d regions (length before))
