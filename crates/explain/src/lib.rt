@@ -1,6 +1,6 @@
 // A log and its answers in words: what replay prints for people.
-// Promised of `put_explained`: for each of the first n parts of a log one line, the call and its answer in the words of `words`, as specs/Words.antt has them; how many
-// bytes they have; what lies behind them stays. The refusals are those of `lines`.
+// Promised of `put_explained`: for each of the first n parts of a log one line, the call and its answer in the words of `words`, as
+// specs/Words.antt has them; how many bytes they have; what lies behind them stays. The refusals are those of `lines`.
 ghost use Prim.Native.Nat.{_+_, _*_, _≤_};
 ghost use lib.ListN.{length};
 ghost use Rattle.answer.specs.Stores.{cat};

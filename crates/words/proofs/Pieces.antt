@@ -1,4 +1,4 @@
--- What the functions that put words cite: a word where one is chosen, a mode with a sign.
+-- What the functions that put words cite: a word where one is chosen, names where a range of numbers is left, a mode with a sign, room.
 use Prim.Native.Nat.{ℕ, _+_, _-_, _≤_, _<_}
 use native.Mathlib.Omega.{arith}
 use mathlib.Core.Path.{_≡_, refl, sym, _∙_}

@@ -16,7 +16,8 @@ use Rattle.words.specs.Placed.{placeAfter, textAfter, Placed}
 
 -- ---- with room, and without
 
-pub fits : {t xs t′ : List ℕ} {at r : ℕ} (widest : ℕ) → length xs ≤ widest → at + widest ≤ length t → Placed widest t at xs r t′ → Piece t at widest xs r t′
+pub fits : {t xs t′ : List ℕ} {at r : ℕ} (widest : ℕ) → length xs ≤ widest → at + widest ≤ length t
+    → Placed widest t at xs r t′ → Piece t at widest xs r t′
 unfolding placeAfter textAfter
 fits widest m room p =
     let e = le-leb _ _ room in
@@ -93,7 +94,8 @@ unfolding fieldA
 a-most op n =
     let f : (xs : List ℕ) → length xs ≤ 10 → Most 23 (field xs n) = λ xs. field-most xs n in
     let u = unused-most n in
-    either (ltb op 3) (f _ (omega arith)) (either (ltb op 16) u (either (ltb op 24) (f _ (omega arith)) (either (ltb op 27) u (either (ltb op 29) (f _ (omega arith)) u))))
+    either (ltb op 3) (f _ (omega arith)) (either (ltb op 16) u (either (ltb op 24) (f _ (omega arith))
+    (either (ltb op 27) u (either (ltb op 29) (f _ (omega arith)) u))))
 
 -- a field at one operation
 at : {ys : List ℕ} (op k n : ℕ) (name : List ℕ) → length name ≤ 10 → Most 23 ys → Most 23 (cond (eqb op k) (field name n) ys)

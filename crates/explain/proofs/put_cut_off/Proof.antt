@@ -21,7 +21,12 @@ put-number-requires c κs = search needs
 
 add-q : tie.Need-add-q
 unfolding cutOff
-add-q c = omega (arith, put-most _ _ _ _ _ (c .before .before .before .before .before .before .put-word .ensures), number-most _ _ _ _ _ (c .before .before .put-number .ensures))
+add-q c =
+    omega (
+      arith,
+      put-most _ _ _ _ _ (c .before .before .before .before .before .before .put-word .ensures),
+      number-most _ _ _ _ _ (c .before .before .put-number .ensures),
+    )
 
 slice-aggregate-put-word-2 : tie.Need-slice-aggregate-put-word-2
 slice-aggregate-put-word-2 c = search needs
@@ -31,7 +36,13 @@ put-word-requires-2 c κs = search needs
 
 add-result : tie.Need-add-result
 unfolding cutOff
-add-result c = omega (arith, put-most _ _ _ _ _ (c .before .before .before .before .before .before .before .before .before .before .before .put-word .ensures), number-most _ _ _ _ _ (c .before .before .before .before .before .before .before .put-number .ensures), put-most _ _ _ _ _ (c .before .before .put-word2 .ensures))
+add-result c =
+    omega (
+      arith,
+      put-most _ _ _ _ _ (c .before .before .before .before .before .before .before .before .before .before .before .put-word .ensures),
+      number-most _ _ _ _ _ (c .before .before .before .before .before .before .before .put-number .ensures),
+      put-most _ _ _ _ _ (c .before .before .put-word2 .ensures),
+    )
 
 same-length : tie.Need-same-length
 same-length c = search needs

@@ -17,7 +17,10 @@ same-length c = search needs
 
 returns : tie.Need-returns
 unfolding explained
-returns c = (c .before .before .before .before .before .before .put-part .ensures) then fits 24 (answer-most _ _) (omega (arith, (c .before .before .before .before .before .before .put-part .ensures .bound))) (c .before .before .put-answer .ensures)
+returns c =
+    (c .before .before .before .before .before .before .put-part .ensures)
+    then fits 24 (answer-most _ _) (omega (arith, (c .before .before .before .before .before .before .put-part .ensures .bound)))
+    (c .before .before .put-answer .ensures)
 
 pub put-line-spec : {M : Type 1} → statement M
 put-line-spec = tie.close (tie.spec put-part-requires put-answer-requires same-length returns)

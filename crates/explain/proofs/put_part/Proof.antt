@@ -51,7 +51,9 @@ same-length-3 c = search needs
 
 returns-3 : tie.Need-returns-3
 unfolding partWords
-returns-3 c = known-as (ap callWords (c .before .before .before .decode-bytewise .ensures) ∙ search tests) (fits 130 (call-most _) (omega arith) (c .before .before .put-call .ensures))
+returns-3 c =
+    known-as (ap callWords (c .before .before .before .decode-bytewise .ensures) ∙ search tests)
+    (fits 130 (call-most _) (omega arith) (c .before .before .put-call .ensures))
 
 pub put-part-spec : {M : Type 1} → statement M
 put-part-spec =

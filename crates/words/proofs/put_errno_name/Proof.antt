@@ -94,7 +94,9 @@ same-length-7 c = search needs
 
 returns-7 : tie.Need-returns-7
 unfolding answerName
-returns-7 c = word 10 (omega arith) (enoent (c .before .before .before .before .before .before .before .args .code) (omega arith) (omega arith)) (c .before .before .put-word7 .ensures)
+returns-7 c =
+    word 10 (omega arith) (enoent (c .before .before .before .before .before .before .before .args .code) (omega arith) (omega arith))
+    (c .before .before .put-word7 .ensures)
 
 pub put-errno-name-spec : {M : Type 1} → statement M
 put-errno-name-spec =

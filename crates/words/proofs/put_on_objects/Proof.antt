@@ -94,7 +94,9 @@ same-length-7 c = search needs
 
 returns-7 : tie.Need-returns-7
 unfolding operation
-returns-7 c = word 20 (omega arith) (make-public (c .before .before .before .before .before .before .before .args .op) (omega arith) (omega arith)) (c .before .before .put-word7 .ensures)
+returns-7 c =
+    word 20 (omega arith) (make-public (c .before .before .before .before .before .before .before .args .op) (omega arith) (omega arith))
+    (c .before .before .put-word7 .ensures)
 
 pub put-on-objects-spec : {M : Type 1} → statement M
 put-on-objects-spec =
