@@ -42,7 +42,7 @@ fn places(n: u32) -> usize
 }
 
 // Whether n bytes have room from a place on; no sum, so that none can wrap.
-fn has_room(text: &[u8], at: usize, n: usize) -> bool
+pub fn has_room(text: &[u8], at: usize, n: usize) -> bool
     ensures { λ r. ⌜ r ≡ leb (at + n) (length (now (text .entry))) ⌝ }
 {
     if text.len() < at {

@@ -1,5 +1,5 @@
-use mathlib.Core.Path.{_≡_, refl, sym, _∙_}
-use Prim.Native.Nat.{_+_, _-_, _*_, _≤_}
+use mathlib.Core.Path.{_≡_, refl, _∙_}
+use Prim.Native.Nat.{_-_, _*_, _≤_}
 use native.Mathlib.Omega.{arith}
 use lib.ListN.{length}
 use Rattle.answer.specs.Stores.{cat}
@@ -7,9 +7,6 @@ use Rattle.lines.specs.Steps.{Piece, none-put, one-more}
 use Rattle.explain.specs.Words.{explainedAt}
 use Rattle.explain.proofs.put_all.Statement.{statement}
 use Rattle.explain.proofs.put_all.Tie as tie
-use Rattle.explain.proofs.put_all.Reads as reads
-use Rattle.explain.proofs.put_all.Lts as lts
-use Rattle.explain.proofs.put_part_at.Reads as put-part-at-reads
 
 abbrev Inv-loop : tie.InvT-loop
 Inv-loop text₀ log out n at₀ k₀ text at k = (k ≤ n) × ((length text ≡ length text₀) × Piece text₀ 0 (154 * k) (cat (explainedAt log out) k) at text)
@@ -17,59 +14,45 @@ Inv-loop text₀ log out n at₀ k₀ text at k = (k ≤ n) × ((length text ≡
 abbrev μ-loop : tie.MeasureT-loop
 μ-loop text₀ log out n at₀ k₀ text at k = n - k
 
--- src/lib.rt:266:5
 loop-holds : tie.Need-loop-holds Inv-loop μ-loop
 loop-holds c = (omega arith, (refl, none-put (explainedAt ((c .before .before .before .args .log) .now) ((c .before .before .before .args .out) .now)) 154 ((c .before .before .before .args .text) .now)))
 
--- src/lib.rt:267:48
 mul-put-part-at : tie.Need-mul-put-part-at Inv-loop μ-loop
 mul-put-part-at c = omega arith
 
--- src/lib.rt:267:44
 mul-put-part-at-2 : tie.Need-mul-put-part-at-2 Inv-loop μ-loop
 mul-put-part-at-2 c = omega arith
 
--- src/lib.rt:267:44
 shared-slice-read-put-part-at : tie.Need-shared-slice-read-put-part-at Inv-loop μ-loop
 shared-slice-read-put-part-at c = omega arith
 
--- src/lib.rt:267:60
 mul-put-part-at-3 : tie.Need-mul-put-part-at-3 Inv-loop μ-loop
 mul-put-part-at-3 c = omega arith
 
--- src/lib.rt:267:60
 add-put-part-at : tie.Need-add-put-part-at Inv-loop μ-loop
 add-put-part-at c = omega arith
 
--- src/lib.rt:267:56
 mul-put-part-at-4 : tie.Need-mul-put-part-at-4 Inv-loop μ-loop
 mul-put-part-at-4 c = omega arith
 
--- src/lib.rt:267:56
 shared-slice-read-put-part-at-2 : tie.Need-shared-slice-read-put-part-at-2 Inv-loop μ-loop
 shared-slice-read-put-part-at-2 c = omega arith
 
--- src/lib.rt:267:9
 put-part-at-requires : tie.Need-put-part-at-requires Inv-loop μ-loop
 put-part-at-requires c κs = (omega (arith, (c .before .before .before .before .loop .inv) .1 .1 .next, (c .before .before .before .before .loop .inv) .1 .1 .bound), omega arith)
 
--- src/lib.rt:268:9
 add-k : tie.Need-add-k Inv-loop μ-loop
 add-k c = omega arith
 
--- src/lib.rt:266:5
 loop-less : tie.Need-loop-less Inv-loop μ-loop
 loop-less c = omega arith
 
--- src/lib.rt:266:5
 loop-again : tie.Need-loop-again Inv-loop μ-loop
 loop-again c = (omega arith, ((c .before .before .put-part-at .kept) .0 ∙ (c .before .before .before .before .before .before .before .loop .inv) .1 .0, one-more (explainedAt ((c .before .before .before .before .before .before .before .before .before .before .before .args .log) .now) ((c .before .before .before .before .before .before .before .before .before .before .before .args .out) .now)) 154 ((c .before .before .before .before .before .before .before .loop .inv) .1 .1) ((c .before .before .put-part-at .ensures))))
 
--- src/lib.rt:260:1
 same-length : tie.Need-same-length Inv-loop μ-loop
 same-length c = (c .before .loop .inv) .1 .0
 
--- src/lib.rt:260:1
 returns : tie.Need-returns Inv-loop μ-loop
 returns c = let z : (c .before .loop .k) ≡ (c .before .before .before .before .before .args .n) = omega arith in rw z at ((c .before .loop .inv) .1 .1)
 

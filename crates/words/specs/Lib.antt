@@ -1,0 +1,3 @@
+pub mod Words
+pub mod Placed
+pub mod Laws
