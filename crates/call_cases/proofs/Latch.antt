@@ -10,6 +10,7 @@ use mathlib.Core.List.{List, []}
 use lib.Dec.{eqb, lit<, lit≤}
 use lib.ListN.{length, List·getD-eq-default}
 use borrow.Author.Tests.{le-ltb, lt-leb, eqb-true, ne-eqb}
+use Rattle.answer.specs.Answer.{refused, done}
 use Rattle.answer.specs.declared.Answer.{Answer}
 use Rattle.answer.specs.declared.Code.the-variants.{Einval, Eperm}
 use Rattle.mem_partition.specs.declared.MemPartition.{MemPartition}
@@ -26,7 +27,7 @@ use Rattle.mem_check.specs.Memory.{gives, coversAt, isCovered, coveredRun, reac
 use Rattle.rules.specs.Rules.{Keeps}
 use Rattle.decoding.specs.declared.Call.{Call}
 use Rattle.decoding.specs.Calls.{Op, validate, check, opOf}
-use Rattle.judging.specs.Judge.{done, refused, live, supervisor, typeOf, mayUse, wellFormed, useOf, withHandle, rule, isUnknown, isPrivileged, judgeOp, judge}
+use Rattle.judging.specs.Judge.{live, supervisor, typeOf, mayUse, wellFormed, useOf, withHandle, rule, isUnknown, isPrivileged, judgeOp, judge}
 use Rattle.call_laws.proofs.Conditions.{Mode, FitsType, Fields, fields-iff, fits-iff}
 use Rattle.call_laws.proofs.Cascade.{stop, pass}
 use Rattle.call_laws.proofs.Operations.{validate-ok-when, check-ok-when}

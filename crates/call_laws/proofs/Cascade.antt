@@ -11,9 +11,9 @@ use lib.ListN.{getD}
 use Rattle.answer.specs.declared.Answer.{Answer}
 use Rattle.answer.specs.declared.Code.{Code}
 use Rattle.answer.specs.declared.Code.the-variants.{Ok}
-use Rattle.answer.specs.Answer.{numberOf, codeOf}
+use Rattle.answer.specs.Answer.{numberOf, codeOf, refused}
 use Rattle.answer.proofs.Cases.{code-of-number}
-use Rattle.judging.specs.Judge.{refused, _⇒_⨾_}
+use Rattle.judging.specs.Judge.{_⇒_⨾_}
 
 -- ---- one test
 

@@ -7,6 +7,7 @@ use lib.ListN.{getD}
 use borrow.Author.Tests.{lt-leb, le-leb, eq-eqb, ne-eqb, not-true, not-false}
 use mathlib.Core.Logic.{_≢_}
 use Rattle.tables.specs.declared.Thread.{Thread}
+use Rattle.answer.specs.Answer.{plain, refused}
 use Rattle.answer.specs.declared.Answer.{Answer}
 use Rattle.answer.specs.declared.Code.{Code}
 use Rattle.answer.specs.declared.Code.the-variants.{Einval, Eperm, Ebadf}
@@ -21,7 +22,7 @@ use Rattle.tables.specs.State.{State, object, thread}
 use Rattle.rules.specs.Rules.{isLive, isSupervisor}
 use Rattle.decoding.specs.declared.Call.{Call}
 use Rattle.decoding.specs.Calls.{Op, opOf}
-use Rattle.judging.specs.Judge.{refused, _⇒_⨾_, live, supervisor, wellFormed, Use, noHandle, taken, useOf, withHandle, rule, isUnknown, isPrivileged, judgeOp, judge, takenIn, plain}
+use Rattle.judging.specs.Judge.{_⇒_⨾_, live, supervisor, wellFormed, Use, noHandle, taken, useOf, withHandle, rule, isUnknown, isPrivileged, judgeOp, judge, takenIn}
 
 -- a callee's answer by its contract, and the branch that says what it is not
 pub via-no : {x y : Bool} → x ≡ y → not x ≡ true → y ≡ false

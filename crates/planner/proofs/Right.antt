@@ -11,7 +11,7 @@ use borrow.Author.Tests.{eqb-true, eq-eqb, le-leb, not-true}
 use lib.Dec.{eqb}
 use lib.ListN.{length, List·getD-append}
 use lib.Seq.{getD-append-add, getD-at}
-use Rattle.answer.specs.declared.Code.the-variants.{Ok}
+use Rattle.answer.specs.Answer.{done}
 use Rattle.mem_domain.specs.Scan.{countTo}
 use Rattle.mem_partition.specs.Partition.{isActive, isValid, holds}
 use Rattle.mem_domain.specs.Domain.{slotAt, activeTo, activeCount}
@@ -20,7 +20,7 @@ use Rattle.mem_domain.specs.declared.MemDomain.{MemDomain}
 use Rattle.mpu.specs.Table.{lastOf}
 use Rattle.domain_rules.specs.Scan.{allTo}
 use Rattle.domain_rules.specs.Sound.{attrOk, slotOk, apartTo, slotSound, slotsSound, domainSound}
-use Rattle.mpu.specs.Mpu.{baseOf, sizeOf, apRights, withExecute, regionRights, regionHolds, placeOk, reservedOk, regionOk, rbarAt, rasrAt, regionsOf, okTo, planOk, planTo, domainTo, rightsOfPlan, rightsOfDomain, plain, checked}
+use Rattle.mpu.specs.Mpu.{baseOf, sizeOf, apRights, withExecute, regionRights, regionHolds, placeOk, reservedOk, regionOk, rbarAt, rasrAt, regionsOf, okTo, planOk, planTo, domainTo, rightsOfPlan, rightsOfDomain, checked}
 use Rattle.domain_rules.proofs.All.{both-true, all-same, all-at, all-more}
 use Rattle.mpu.proofs.Table.{any-true, last-step, last-same}
 use Rattle.mpu.proofs.Exact.{ok-when}
@@ -230,7 +230,7 @@ module _ (l : List MemPartition) (fit : slotsFit l ≡ true) (sound : slotsSound
       rw (eq-eqb _ _ e, le-leb _ _ f, half) (ok 16 (le-refl _))
 
 -- the checker accepts the plan of a sound domain whose slots can be regions
-pub accepted : (d : MemDomain) → domainSound d ≡ true → slotsFit (d .partitions) ≡ true → checked d (planOf (d .partitions)) ≡ plain Ok
+pub accepted : (d : MemDomain) → domainSound d ≡ true → slotsFit (d .partitions) ≡ true → checked d (planOf (d .partitions)) ≡ done
 unfolding domainSound
 accepted d s f =
     let w = both-true (slotsSound (d .partitions)) _ s .0 in

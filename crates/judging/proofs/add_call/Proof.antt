@@ -13,7 +13,7 @@ use Rattle.judging.proofs.add_call.Statement.{statement}
 use Rattle.judging.proofs.add_call.Tie as tie
 use Rattle.judging.proofs.add_call.Reads as reads
 use Rattle.judging.proofs.add_call.Lts as lts
-use Rattle.judging.proofs.is_attr.Reads as is-attr-reads
+use Rattle.domain_rules.proofs.attr_ok.Reads as attr-ok-reads
 use Rattle.judging.proofs.plain_answer.Reads as plain-answer-reads
 use Rattle.mem_domain.proofs.MemDomain.add_partition.Reads as add-partition-reads
 use Rattle.tables.proofs.load_domain.Reads as load-domain-reads
@@ -28,8 +28,8 @@ unfolding addIn wellFormed
 returns c = (c .plain-answer .ensures) ∙ sym (stop-not Einval _ (first-fails _ (le-ltb _ _ (c .before .if1 .taken))))
 
 -- src/lib.rt:549:9
-is-attr-requires : tie.Need-is-attr-requires
-is-attr-requires c κs = search needs
+attr-ok-requires : tie.Need-attr-ok-requires
+attr-ok-requires c κs = search needs
 
 -- src/lib.rt:550:9
 plain-answer-requires-2 : tie.Need-plain-answer-requires-2
@@ -38,7 +38,7 @@ plain-answer-requires-2 c κs = search needs
 -- src/lib.rt:550:9
 returns-2 : tie.Need-returns-2
 unfolding addIn wellFormed
-returns-2 c = (c .plain-answer2 .ensures) ∙ sym (stop-not Einval _ (second-fails (lt-ltb _ _ (c .before .before .before .if1 .left)) (via-no (c .before .before .is-attr .ensures) (c .before .if2 .taken))))
+returns-2 c = (c .plain-answer2 .ensures) ∙ sym (stop-not Einval _ (second-fails (lt-ltb _ _ (c .before .before .before .if1 .left)) (via-no (c .before .before .attr-ok .ensures) (c .before .if2 .taken))))
 
 -- src/lib.rt:552:9
 load-domain-requires : tie.Need-load-domain-requires
@@ -51,7 +51,7 @@ add-partition-requires c κs = search needs
 -- src/lib.rt:542:1
 returns-3 : tie.Need-returns-3
 unfolding addIn wellFormed
-returns-3 c = ap slotAnswer ((c .add-partition .ensures) ∙ ap (λ (m : MemDomain). added m (partitionOf ((c .before .before .before .before .before .before .before .args .c)))) ((c .before .load-domain .ensures) ∙ ap withCount (sym (domain-of ((c .before .before .before .before .before .before .before .args .slots .now)) ((c .before .before .before .before .before .before .before .args .c .a)) (c .before .before .before .before .if1 .left))))) ∙ sym (pass-not Einval _ (all-of (lt-ltb _ _ (c .before .before .before .before .if1 .left)) (via-yes (c .before .before .before .is-attr .ensures) (c .before .before .if2 .left))))
+returns-3 c = ap slotAnswer ((c .add-partition .ensures) ∙ ap (λ (m : MemDomain). added m (partitionOf ((c .before .before .before .before .before .before .before .args .c)))) ((c .before .load-domain .ensures) ∙ ap withCount (sym (domain-of ((c .before .before .before .before .before .before .before .args .slots .now)) ((c .before .before .before .before .before .before .before .args .c .a)) (c .before .before .before .before .if1 .left))))) ∙ sym (pass-not Einval _ (all-of (lt-ltb _ _ (c .before .before .before .before .if1 .left)) (via-yes (c .before .before .before .attr-ok .ensures) (c .before .before .if2 .left))))
 
 pub add-call-spec : {M : Type 1} → statement M
 add-call-spec =
@@ -59,7 +59,7 @@ add-call-spec =
     (tie.spec
     plain-answer-requires
     returns
-    is-attr-requires
+    attr-ok-requires
     plain-answer-requires-2
     returns-2
     load-domain-requires

@@ -2,8 +2,9 @@ use Rattle.judging.proofs.Order.{all-of, first-fails, second-fails, via
 use Prim.Native.Nat.{_-_}
 use mathlib.Core.Path.{sym, _∙_}
 use borrow.Author.Tests.{eq-eqb, ne-eqb}
+use Rattle.answer.specs.Answer.{done}
 use Rattle.answer.specs.declared.Code.the-variants.{Einval}
-use Rattle.judging.specs.Judge.{wellFormed, exitIn, done}
+use Rattle.judging.specs.Judge.{wellFormed, exitIn}
 use borrow.Author.Needs.{needs}
 use Rattle.judging.proofs.exit.Statement.{statement}
 use Rattle.judging.proofs.exit.Tie as tie

@@ -1,11 +1,10 @@
 use Prim.Native.Nat.{_-_}
 use mathlib.Core.Path.{ap, _∙_}
+use Rattle.answer.specs.Answer.{plain}
 use Rattle.tables.specs.State.{object, thread}
 use Rattle.decoding.specs.Calls.{validate}
 use Rattle.judging.specs.Judge.{rule}
-use Rattle.judging.specs.Judge.{plain}
 use Rattle.judging.proofs.Order.{validated-plain, validated-same}
-use Rattle.judging.specs.Judge.{plain}
 use borrow.Author.Needs.{needs}
 use Rattle.judging.proofs.validate_rule.Statement.{statement}
 use Rattle.judging.proofs.validate_rule.Tie as tie
