@@ -30,8 +30,8 @@ use Rattle.mem_check.specs.Memory.{coveredRun, reached, memoryRule}
 use Rattle.decoding.specs.declared.Call.{Call}
 use Rattle.decoding.specs.Calls.{create, delete, revoke, init, uninit, recycle, publish, thread as newThread, end, inherit, assign, add, remove, Op, validate, grant, release, check, exit, sup, unknown, opOf}
 use Rattle.judging.specs.Judge.{live, supervisor, typeOf, mayUse, servesAt, serves, isMode, modeOf, wellFormed, partitionOf, Use, noHandle, taken, free, useOf, withHandle, rule, supRule, isUnknown, isPrivileged, judgeOp, judge}
-use Rattle.call_laws.proofs.Passed.{TakenAt, FreeAt, in-range}
-use Rattle.call_laws.proofs.Bytes.{EveryByte, run-all, all-run}
+use Rattle.judging.specs.Passed.{TakenAt, FreeAt, in-range}
+use Rattle.mem_check.specs.Runs.{EveryByte, run-all, all-run}
 use Rattle.call_laws.proofs.Iff.{lt-iff, eq-iff, ne-iff, gt-iff, le-iff, not-iff, unless-iff, same-iff, and-iff, or-iff, nor-iff, step-iff, last-iff}
 
 -- ---- words of the conditions

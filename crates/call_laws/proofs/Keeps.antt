@@ -29,7 +29,7 @@ use Rattle.judging.specs.Judge.{live, servesAt, serves, partitionOf, wellFormed
 use Rattle.judging.specs.Change.{one, each, enact, inherited, objectChange, born, moved, threadChange, domainChange, change, after, left}
 use Rattle.call_laws.proofs.Cascade.{ok}
 use Rattle.call_laws.proofs.Enact.{enact-length, one-keeps, each-keeps, each-at, one-same, one-other}
-use Rattle.call_laws.proofs.Passed.{PassedAs, in-range}
+use Rattle.judging.specs.Passed.{PassedAs, in-range}
 use Rattle.call_laws.proofs.Parts.{threadIn, FineObject, FineThread, Alone, Parts, parts, whole, fine-flags, flags-set, flags-clear, fine-granted, fine-revoked, fine-recycled, fine-inherited, fine-fresh, revoked-none}
 use Rattle.call_laws.proofs.Slots.{slots-added, slots-removed}
 

@@ -28,7 +28,7 @@ use Rattle.decoding.specs.Calls.{create, delete, revoke, init, uninit, recycle,
 use Rattle.judging.specs.Judge.{_⇒_⨾_, live, supervisor, typeOf, mayUse, serves, modeOf, wellFormed, partitionOf, slotAnswer, Use, noHandle, taken, free, useOf, withHandle, rule, supRule, isUnknown, isPrivileged, judgeOp, judge, heard}
 use Rattle.judging.specs.Change.{change, after, left}
 use Rattle.call_laws.proofs.Cascade.{stop, pass, past, Test, firstOf, testAt, FirstAt, None, Verdict, by, none, verdict, refuses, lets, Refusals, refusals-append, By, same-name, ok-exactly, code-exactly}
-use Rattle.call_laws.proofs.Bytes.{Least, run-all, run-least}
+use Rattle.mem_check.specs.Runs.{Least, run-all, run-least}
 use Rattle.call_laws.proofs.Conditions.{Mode, Fields, fields-iff}
 
 -- ---- the tests

@@ -1,5 +1,5 @@
 -- The reader's answers, in their order, and what each leaves: what a good header says, which images are accepted, and that a refusal changes nothing.
-use Prim.Native.Nat.{ℕ, _*_, _≤_, _<_}
+use Prim.Native.Nat.{ℕ, _≤_, _<_}
 use native.Mathlib.Nat.{le-refl}
 use native.Mathlib.Omega.{arith}
 use mathlib.Core.Path.{_≡_, refl, sym, _∙_}
@@ -12,7 +12,6 @@ use Rattle.answer.specs.Answer.{numberOf}
 use Rattle.answer.specs.declared.Answer.{Answer}
 use Rattle.answer.specs.declared.Code.the-variants.{Ok, Short, Magic, Value}
 use Rattle.domain_rules.proofs.All.{both-true}
-use Rattle.mem_domain.specs.Domain.{slots as SLOTS}
 use Rattle.userspace.specs.Userspace.{THREADS}
 use Rattle.tables.specs.Table.{HANDLES, DOMAINS, sized}
 use Rattle.image_write.specs.Bytes.{magic}

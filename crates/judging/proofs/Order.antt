@@ -18,7 +18,7 @@ use Rattle.userspace_decide.specs.declared.Validated.the-variants.{Ok as Fine, 
 use Rattle.userspace_names.specs.declared.InitCheck.{InitCheck}
 use Rattle.userspace.specs.declared.KernelObject.{KernelObject}
 use Rattle.tables.specs.Table.{HANDLES, noObject}
-use Rattle.tables.specs.State.{State, object, thread}
+use Rattle.tables.specs.State.{State, object}
 use Rattle.rules.specs.Rules.{isLive, isSupervisor}
 use Rattle.decoding.specs.declared.Call.{Call}
 use Rattle.decoding.specs.Calls.{Op, opOf}

@@ -5,7 +5,7 @@ use native.Mathlib.Decide.{ℕ-discrete, decLt}
 use mathlib.Core.Path.{_≡_, refl, sym, ap, _∙_}
 use mathlib.Core.Logic.{_≢_}
 use mathlib.Core.Bool.{true}
-use mathlib.Core.List.{List, [], _∷_}
+use mathlib.Core.List.{List}
 use native.Mathlib.Omega.{arith}
 use borrow.Author.Tests.{lt-ltb, le-ltb, eqb-true}
 use lib.Dec.{eqb}
@@ -19,7 +19,7 @@ use Rattle.userspace.specs.Userspace.{THREADS}
 use Rattle.userspace.specs.declared.KernelObject.{KernelObject}
 use Rattle.tables.specs.declared.Thread.{Thread}
 use Rattle.tables.specs.Rows.{apart-2, apart-3, sets-comm, at2-same, at2-other, at2-out, at3-same, at3-other, at3-out}
-use Rattle.tables.specs.Tabulate.{tabulate, tabulate-ext, tabulate-getD}
+use Rattle.tables.specs.Tabulate.{tabulate-ext, tabulate-getD}
 use Rattle.tables.specs.Table.{HANDLES, DOMAINS, sized, noObject, nobody, objectOf, objectAt, putObject, objectRow, threadOf, threadAt, putThread, threadRow, partitionOf, partitionAt, putPartition, partitionRow, slotAt, putSlot, partitionsAt, putTo}
 
 -- three lengths that pass the test are a state's
