@@ -6,6 +6,7 @@ use lib.Dec.{eqb, ltb, leb}
 use lib.ListN.{getD}
 use borrow.Author.Tests.{lt-leb, le-leb, eq-eqb, ne-eqb, not-true, not-false}
 use mathlib.Core.Logic.{_≢_}
+use Rattle.domain_rules.proofs.All.{both}
 use Rattle.tables.specs.declared.Thread.{Thread}
 use Rattle.answer.specs.Answer.{plain, refused}
 use Rattle.answer.specs.declared.Answer.{Answer}
@@ -101,9 +102,6 @@ module _ (o : Op) (s : State) (c : Call) where
   to-rule-bare e u = good-fields e ∙ ap (λ (x : Use). withHandle x s (c .a) (rule o s c)) u
 
 -- ---- fields, over plain truth values
-pub all-of : {x y : Bool} → x ≡ true → y ≡ true → x && y ≡ true
-all-of {x} {y} p q = ap (λ (b : Bool). b && y) p ∙ q
-
 pub first-fails : {x : Bool} (y : Bool) → x ≡ false → x && y ≡ false
 first-fails y p = ap (λ (b : Bool). b && y) p
 
@@ -153,7 +151,7 @@ module _ (s : State) (c : Call) where
 
         pub not-theirs : isPrivileged (opOf (c .op)) ≡ true → supervisor s (c .caller) ≡ false → judge s c ≡ refused Eperm
         unfolding judge
-        not-theirs p n = pass Einval _ (lt-leb _ _ known) ∙ pass-not Eperm _ lives ∙ pass Einval _ op ∙ stop Eperm _ (all-of p (ap not n))
+        not-theirs p n = pass Einval _ (lt-leb _ _ known) ∙ pass-not Eperm _ lives ∙ pass Einval _ op ∙ stop Eperm _ (both p (ap not n))
 
         pub theirs : isPrivileged (opOf (c .op)) ≡ true → supervisor s (c .caller) ≡ true → judge s c ≡ judgeOp (opOf (c .op)) s c
         unfolding judge
