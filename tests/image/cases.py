@@ -13,6 +13,10 @@ import os, random, struct, sys
 SEED = 20261116
 HERE = os.path.dirname(os.path.abspath(__file__))
 CRATE = os.path.join(HERE, '..', '..', 'crates', 'try_image')
+sys.dont_write_bytecode = True
+sys.path.insert(0, os.path.dirname(HERE))
+import stored
+
 OK, SHORT, MAGIC, VALUE, ROOM = 0, 7, 8, 9, 11
 HALF, SIZE = 8192, 16384
 
@@ -365,17 +369,8 @@ def made():
 
 def main():
     steps, out, answers = made()
-    assert len(steps) <= 65536, len(steps)
     assert set(answers) == {OK, SHORT, MAGIC, VALUE, ROOM}
-    files = ((os.path.join(CRATE, 'stdin'), steps), (os.path.join(CRATE, 'stdout'), out.encode()))
-    if sys.argv[1:] == ['--write']:
-        for path, data in files:
-            open(path, 'wb').write(data)
-        print(len(steps), 'bytes', len(out.splitlines()), 'lines', sorted(answers.items()))
-        return
-    same = [open(path, 'rb').read() == data for path, data in files]
-    print(f'{sum(same)} passed, {len(same) - sum(same)} failed')
-    sys.exit(0 if all(same) else 1)
+    stored.settle(CRATE, steps, out, f'{len(steps)} bytes {len(out.splitlines())} lines {sorted(answers.items())}')
 
 
 if __name__ == '__main__':

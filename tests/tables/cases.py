@@ -12,6 +12,9 @@ import os, random, struct, sys
 SEED = 20261115
 HERE = os.path.dirname(os.path.abspath(__file__))
 CRATE = os.path.join(HERE, '..', '..', 'crates', 'try_tables')
+sys.dont_write_bytecode = True
+sys.path.insert(0, os.path.dirname(HERE))
+import stored
 
 
 class Tables:
@@ -214,16 +217,7 @@ def made():
 
 def main():
     steps, out = made()
-    assert len(steps) <= 65536, len(steps)
-    files = ((os.path.join(CRATE, 'stdin'), steps), (os.path.join(CRATE, 'stdout'), out.encode()))
-    if sys.argv[1:] == ['--write']:
-        for path, data in files:
-            open(path, 'wb').write(data)
-        print(len(steps) // 16, 'steps', len(out.splitlines()), 'lines', out.count('yes'), 'yes')
-        return
-    same = [open(path, 'rb').read() == data for path, data in files]
-    print(f'{sum(same)} passed, {len(same) - sum(same)} failed')
-    sys.exit(0 if all(same) else 1)
+    stored.settle(CRATE, steps, out, f'{len(steps) // 16} steps {len(out.splitlines())} lines {out.count("yes")} yes')
 
 
 if __name__ == '__main__':

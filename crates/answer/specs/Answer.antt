@@ -7,6 +7,7 @@ use Rattle.answer.specs.declared.Code.{Code}
 use Rattle.answer.specs.declared.Code.the-variants.{Ok, Einval, Eperm, Ebadf, Eaddrinuse, Enospc, Enoent, Short, Magic, Value, Noplan, Room, Differs}
 use Rattle.answer.specs.declared.Named.{Named}
 use Rattle.answer.specs.declared.Named.the-variants.{Is, Nothing}
+use Rattle.answer.specs.declared.Answer.{Answer}
 use Rattle.answer.specs.declared.Errno.{Errno}
 
 -- the number of each name
@@ -41,6 +42,16 @@ codeOf n =
     cond (eqb n 10) (Is Noplan) (
     cond (eqb n 11) (Is Room) (
     cond (eqb n 12) (Is Differs) (Nothing)))))))))))))
+
+-- an answer with value 0; a refusal has it, and OK where there is nothing to tell
+abbrev pub plain : ℕ → Answer
+plain n = record { code = n; value = 0 }
+
+abbrev pub refused : Code → Answer
+refused c = plain (numberOf c)
+
+abbrev pub done : Answer
+done = plain (numberOf Ok)
 
 -- upstream's value behind OK
 abbrev pub known : ℤ → Errno

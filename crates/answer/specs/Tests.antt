@@ -1,7 +1,7 @@
 -- What proofs of decisions share, here and in the crates above.
 use Prim.Native.Nat.{ℕ, _<_}
-use mathlib.Core.Path.{_≡_, sym, _∙_}
-use mathlib.Core.Bool.{false}
+use mathlib.Core.Path.{_≡_, refl, sym, _∙_}
+use mathlib.Core.Bool.{Bool, true, false, false≢true, _&&_}
 use lib.Dec.{eqb}
 use borrow.Author.Tests.{le-ltb, lt-ltb, le-leb, lt-leb, eq-eqb, ne-eqb}
 use native.Mathlib.Omega.{arith}
@@ -12,6 +12,11 @@ gt-eqb m n h = ne-eqb m n (λ e. omega arith)
 
 pub lt-eqb : (m n : ℕ) → m < n → eqb m n ≡ false
 lt-eqb m n h = ne-eqb m n (λ e. omega arith)
+
+-- both of two tests that hold together hold
+pub both-true : (a b : Bool) → a && b ≡ true → (a ≡ true) × (b ≡ true)
+both-true true b e = (refl, e)
+both-true false b e = absurd (false≢true e)
 
 -- for `search`: a test in a goal becomes true or false where omega decides it from what is known
 pub ruleset tests = (lt-ltb, le-ltb, le-leb, lt-leb, eq-eqb, ne-eqb, gt-eqb, lt-eqb, arith)

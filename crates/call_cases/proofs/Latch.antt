@@ -1,6 +1,6 @@
 -- Two calls that no latch with one answer can meet, over any state: document 01, "What every promise must fix". And a memory check across two
 -- neighbouring partitions, over any state.
-use Prim.Native.Nat.{ℕ, zero, suc, _+_, _≤_, _<_}
+use Prim.Native.Nat.{ℕ, _+_, _≤_, _<_}
 use native.Mathlib.Decide.{decLt}
 use native.Mathlib.Omega.{arith}
 use mathlib.Core.Path.{_≡_, refl, sym, ap, _∙_}
@@ -9,24 +9,24 @@ use mathlib.Core.Bool.{Bool, true, false, not, false≢true}
 use mathlib.Core.List.{List, []}
 use lib.Dec.{eqb, lit<, lit≤}
 use lib.ListN.{length, List·getD-eq-default}
-use borrow.Author.Tests.{le-ltb, lt-leb, eqb-true, ne-eqb}
+use borrow.Author.Tests.{lt-leb, eqb-true, ne-eqb}
+use Rattle.answer.specs.Answer.{refused, done}
 use Rattle.answer.specs.declared.Answer.{Answer}
 use Rattle.answer.specs.declared.Code.the-variants.{Einval, Eperm}
 use Rattle.mem_partition.specs.declared.MemPartition.{MemPartition}
 use Rattle.mem_partition.specs.Partition.{endOf}
 use Rattle.mem_domain.specs.Domain.{slots as SLOTS, slotAt}
-use Rattle.mem_domain.proofs.Scan.{any-at, any-none}
-use Rattle.mem_partition.proofs.Partition.{holds-at, holds-active}
 use Rattle.domain_rules.proofs.All.{isnt-true}
 use Rattle.userspace_decide.specs.Decide.{judged}
 use Rattle.userspace.specs.Userspace.{THREADS, public, holds, access, validated}
 use Rattle.tables.specs.Table.{HANDLES, DOMAINS}
 use Rattle.tables.specs.State.{State, object, thread, domain}
-use Rattle.mem_check.specs.Memory.{gives, coversAt, isCovered, coveredRun, reached, memoryRule}
+use Rattle.mem_check.specs.Memory.{gives, isCovered}
+use Rattle.mem_check.proofs.Memory.{covered-when, no-slots}
 use Rattle.rules.specs.Rules.{Keeps}
 use Rattle.decoding.specs.declared.Call.{Call}
 use Rattle.decoding.specs.Calls.{Op, validate, check, opOf}
-use Rattle.judging.specs.Judge.{done, refused, live, supervisor, typeOf, mayUse, wellFormed, useOf, withHandle, rule, isUnknown, isPrivileged, judgeOp, judge}
+use Rattle.judging.specs.Judge.{live, supervisor, typeOf, mayUse, wellFormed, useOf, withHandle, rule, isUnknown, isPrivileged, judgeOp, judge}
 use Rattle.call_laws.proofs.Conditions.{Mode, FitsType, Fields, fields-iff, fits-iff}
 use Rattle.call_laws.proofs.Cascade.{stop, pass}
 use Rattle.call_laws.proofs.Operations.{validate-ok-when, check-ok-when}
@@ -141,10 +141,7 @@ pub record Neighbours (ps : List MemPartition) (write : Bool) (j k : ℕ) : Type
 
 module _ (ps : List MemPartition) (write : Bool) where
   in-slot : (x k : ℕ) → k < SLOTS → slotAt ps k .start ≤ x → x < endOf (slotAt ps k) → gives (slotAt ps k) write ≡ true → isCovered ps write x ≡ true
-  unfolding isCovered
-  in-slot x k b l h g =
-      let a = holds-at (slotAt ps k) x l h in
-      any-at (coversAt ps write x) SLOTS k b (rw (holds-active (slotAt ps k) x a, a, g))
+  in-slot x k b l h g = covered-when ps write x (record { slot = k; below = b; covers = record { active = omega arith; from = l; to = h; right = g } })
 
   both-cover : (j k : ℕ) → Neighbours ps write j k → (x : ℕ) → slotAt ps j .start ≤ x → x < endOf (slotAt ps k) → isCovered ps write x ≡ true
   both-cover j k n x l h = go (decLt x (endOf (slotAt ps j)))
@@ -178,31 +175,15 @@ no-domain : (s : State) → length (s .domains) ≡ DOMAINS → domain s 255 ≡
 unfolding domain
 no-domain s n = List·getD-eq-default (s .domains) [] {n = 255} (rw n (lit≤ tt))
 
-none-covered : (write : Bool) (x : ℕ) → isCovered [] write x ≡ false
-unfolding isCovered
-none-covered write x = any-none (coversAt [] write x) SLOTS (λ k b. refl)
-
-none-reached : (write : Bool) (from n : ℕ) → n ≢ 0 → reached from n (coveredRun [] write from n) ≡ record { code = 2; value = from }
-unfolding reached coveredRun
-none-reached write from zero z = absurd (z refl)
-none-reached write from (suc n) z = let q : from + 0 ≡ from = omega arith in rw (none-covered write from, lt-leb (suc n) 0 (omega arith), q)
-
 -- a live user with domain 255: EPERM with the first address, whatever the right
 pub homeless-refused :
     (s : State) (t from len d : ℕ) → Keeps s → t < THREADS → live s t ≡ true → supervisor s t ≡ false → thread s t .domain ≡ 255 → d < 2 → len ≢ 0 →
     from + len ≤ 4294967295 → judge s (asks 3 t 0 from len d) ≡ record { code = 2; value = from }
-unfolding judge judgeOp opOf isUnknown isPrivileged useOf withHandle rule memoryRule Fields
+unfolding judge judgeOp opOf isUnknown isPrivileged useOf withHandle rule Fields
 homeless-refused s t from len d k b l v h r z e =
     pass _ _ _ (lt-leb THREADS t b)
     ∙ pass _ _ _ (ap not l)
     ∙ pass _ _ _ refl
     ∙ pass _ _ _ refl
     ∙ pass _ _ _ (ap not (fields-iff check (asks 3 t 0 from len d) .1 (refl, r)))
-    ∙ rw (ne-eqb len 0 z, le-ltb 4294967295 (from + len) e, v, h, none-there)
-    (bare len z)
-  where
-    none-there : domain s 255 ≡ []
-    none-there = no-domain s (k .domains-size)
-
-    bare : (n : ℕ) → n ≢ 0 → reached from n (coveredRun [] (eqb d 1) from n) ≡ record { code = 2; value = from }
-    bare n z = none-reached (eqb d 1) from n z
+    ∙ rw (v, h, no-domain s (k .domains-size)) (no-slots (eqb d 1) from len (omega arith) e)

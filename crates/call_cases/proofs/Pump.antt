@@ -9,6 +9,7 @@ use mathlib.Core.List.{List, [], _∷_}
 use lib.Dec.{lit<}
 use lib.ListN.{replicate}
 use lib.Seq.{sets}
+use Rattle.answer.specs.Answer.{refused, done}
 use Rattle.answer.specs.declared.Code.the-variants.{Einval, Eperm}
 use Rattle.domain_rules.specs.Scan.{allTo}
 use Rattle.domain_rules.specs.Sound.{slotsSound, slotSound, slotOk, apartOf, attrOk}
@@ -24,7 +25,7 @@ use Rattle.rules.specs.Rules.{Keeps, Sound, keepsTest, liveTo, objectOk, thread
 use Rattle.rules.proofs.Rules.{test-sound}
 use Rattle.mem_check.specs.Memory.{gives, isCovered, coveredRun, reached, memoryRule}
 use Rattle.decoding.specs.Calls.{opOf}
-use Rattle.judging.specs.Judge.{done, refused, _⇒_⨾_, typeOf, wellFormed, useOf, withHandle, rule, isUnknown, isPrivileged, judgeOp, judge}
+use Rattle.judging.specs.Judge.{_⇒_⨾_, typeOf, wellFormed, useOf, withHandle, rule, isUnknown, isPrivileged, judgeOp, judge}
 use Rattle.call_laws.proofs.Conditions.{Mode}
 use Rattle.call_cases.proofs.Latch.{asks, asksFor, always-refusing-fails, Shut, shut-refused, shut-no-mode}
 

@@ -11,10 +11,10 @@ use lib.ListN.{getD}
 use Rattle.answer.specs.declared.Answer.{Answer}
 use Rattle.answer.specs.declared.Code.{Code}
 use Rattle.answer.specs.declared.Code.the-variants.{Ok, Einval, Eperm, Ebadf, Eaddrinuse, Enospc, Enoent}
-use Rattle.answer.specs.Answer.{numberOf, codeOf}
+use Rattle.answer.specs.Answer.{numberOf, codeOf, refused}
 use Rattle.answer.specs.Given.{oneOf}
 use Rattle.answer.proofs.Cases.{code-of-number}
-use Rattle.judging.specs.Judge.{refused, _⇒_⨾_}
+use Rattle.judging.specs.Judge.{_⇒_⨾_}
 
 -- ---- one test
 
@@ -32,16 +32,6 @@ pub past : (b : Bool) (n : Code) (x y : Answer) → (b ≡ false → x ≡ y) �
 unfolding _⇒_⨾_
 past true n x y f = refl
 past false n x y f = f refl
-
--- an OK says that the test did not hold and that the rest is OK
-pub record Past (b : Bool) (x : Answer) : Type 0 where
-  pub test : b ≡ false
-  pub rest : x .code ≡ 0
-
-pub ok : (b : Bool) (n : Code) (rest : Answer) → 0 < numberOf n → (b ⇒ n ⨾ rest) .code ≡ 0 → Past b rest
-unfolding _⇒_⨾_
-ok true n rest p e = absurd (omega arith)
-ok false n rest p e = record { test = refl; rest = e }
 
 -- ---- tests in a row
 

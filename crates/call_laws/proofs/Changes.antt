@@ -28,7 +28,7 @@ use Rattle.decoding.specs.Calls.{create, delete, revoke, init, uninit, recycle,
 use Rattle.judging.specs.Judge.{partitionOf, rule, supRule, judge}
 use Rattle.judging.specs.Change.{none, one, each, enact, inherited, objectChange, born, moved, threadChange, domainChange, change, after}
 use Rattle.call_laws.proofs.Enact.{one-same, one-other, each-at}
-use Rattle.call_laws.proofs.Passed.{PassedAs, in-range}
+use Rattle.judging.specs.Passed.{PassedAs, in-range}
 use Rattle.call_laws.proofs.Parts.{revoked-none}
 use Rattle.call_laws.proofs.Keeps.{inherited-none}
 use Rattle.call_laws.proofs.Operations.{grant-ok-means, release-ok-means, create-ok-means, delete-ok-means, revoke-ok-means, init-ok-means, uninit-ok-means, recycle-ok-means, publish-ok-means, thread-ok-means, end-ok-means, inherit-ok-means, assign-ok-means, add-ok-means, remove-ok-means, exit-ok-means}

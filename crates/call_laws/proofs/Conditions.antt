@@ -8,8 +8,8 @@ use mathlib.Core.List.{List}
 use lib.Dec.{eqb, ltb, leb, lit<}
 use borrow.Author.Tests.{ltb-true, leb-true, le-leb, eqb-true, eq-eqb, not-true}
 use Rattle.answer.specs.declared.Answer.{Answer}
-use Rattle.answer.specs.declared.Code.the-variants.{Ok, Einval, Eperm, Ebadf}
-use Rattle.answer.specs.Answer.{numberOf}
+use Rattle.answer.specs.declared.Code.the-variants.{Einval, Eperm, Ebadf}
+use Rattle.answer.specs.Answer.{numberOf, done, refused}
 use Rattle.mem_partition.specs.declared.MemPartition.{MemPartition}
 use Rattle.mem_domain.specs.Scan.{lowest, anyTo}
 use Rattle.mem_partition.specs.Partition.{isFree, isActive, isValid, overlapOf, isWindow, endOf}
@@ -20,6 +20,7 @@ use Rattle.mem_domain.proofs.Slots.{no-clash, clash-none}
 use Rattle.userspace.specs.declared.KernelObject.{KernelObject}
 use Rattle.userspace_decide.specs.declared.Validated.the-variants.{Refused}
 use Rattle.userspace_names.specs.declared.InitCheck.the-variants.{MustBeInit, MustNotBeInit}
+use Rattle.domain_rules.specs.Sound.{attrOk}
 use Rattle.bits.specs.Bit.{isSet}
 use Rattle.userspace_decide.specs.Decide.{initJudged, judged, answerOf}
 use Rattle.userspace.specs.Userspace.{THREADS, public, holds, typeFits, access, initialised, validated}
@@ -28,9 +29,9 @@ use Rattle.tables.specs.State.{State, object, thread, domain}
 use Rattle.mem_check.specs.Memory.{coveredRun, reached, memoryRule}
 use Rattle.decoding.specs.declared.Call.{Call}
 use Rattle.decoding.specs.Calls.{create, delete, revoke, init, uninit, recycle, publish, thread as newThread, end, inherit, assign, add, remove, Op, validate, grant, release, check, exit, sup, unknown, opOf}
-use Rattle.judging.specs.Judge.{done, live, supervisor, typeOf, mayUse, servesAt, serves, isMode, modeOf, isAttr, wellFormed, partitionOf, Use, noHandle, taken, free, useOf, withHandle, rule, supRule, isUnknown, isPrivileged, judgeOp, judge}
-use Rattle.call_laws.proofs.Passed.{TakenAt, FreeAt, in-range}
-use Rattle.call_laws.proofs.Bytes.{EveryByte, run-all, all-run}
+use Rattle.judging.specs.Judge.{live, supervisor, typeOf, mayUse, servesAt, serves, isMode, modeOf, wellFormed, partitionOf, Use, noHandle, taken, free, useOf, withHandle, rule, supRule, isUnknown, isPrivileged, judgeOp, judge}
+use Rattle.judging.specs.Passed.{TakenAt, FreeAt, in-range}
+use Rattle.mem_check.specs.Runs.{EveryByte, run-all, all-run}
 use Rattle.call_laws.proofs.Iff.{lt-iff, eq-iff, ne-iff, gt-iff, le-iff, not-iff, unless-iff, same-iff, and-iff, or-iff, nor-iff, step-iff, last-iff}
 
 -- ---- words of the conditions
@@ -126,7 +127,8 @@ thread-iff t m n = and-iff _ _ (lt-iff t THREADS) (zeros-iff m n)
 pub mode-iff : (n : ℕ) → (isMode n ≡ true) ↔ Mode n
 mode-iff n = or-iff _ _ (eq-iff n 0) (or-iff _ _ (eq-iff n 1) (eq-iff n 4294967295))
 
-pub attr-iff : (n : ℕ) → (isAttr n ≡ true) ↔ Attr n
+pub attr-iff : (n : ℕ) → (attrOk n ≡ true) ↔ Attr n
+unfolding attrOk
 attr-iff n = or-iff _ _ (eq-iff n 1) (or-iff _ _ (eq-iff n 3) (or-iff _ _ (eq-iff n 5) (eq-iff n 7)))
 
 pub fields-iff : (o : Op) (c : Call) → (wellFormed o c ≡ true) ↔ Fields o c
@@ -255,7 +257,7 @@ unfolding memoryRule reached
 memory-iff ps v from len w = go (eqb len 0 || ltb 4294967295 (from + len)) v (nor-iff _ _ (ne-iff len 0) (le-iff 4294967295 (from + len)))
   where
     run : (b : Bool) → leb len (coveredRun ps w from len) ≡ b
-        → (cond {A = Answer} b (record { code = numberOf Ok; value = 0 }) (record { code = numberOf Eperm; value = from + coveredRun ps w from len }) .code ≡ 0) ↔ EveryByte ps w from len
+        → (cond {A = Answer} b done (record { code = numberOf Eperm; value = from + coveredRun ps w from len }) .code ≡ 0) ↔ EveryByte ps w from len
     run true e = (λ _. run-all ps w from len (leb-true len (coveredRun ps w from len) e), λ _. refl)
     run false e = (λ q. absurd (omega arith), λ f. absurd (true≢false (sym (le-leb len (coveredRun ps w from len) (all-run ps w from len f)) ∙ e)))
 
@@ -263,7 +265,7 @@ memory-iff ps v from len w = go (eqb len 0 || ltb 4294967295 (from + len)) v (no
     reach = run (leb len (coveredRun ps w from len)) refl
 
     go : (x v : Bool) → ((x ≡ false) ↔ ((len ≢ 0) × (from + len ≤ 4294967295)))
-        → (cond {A = Answer} x (record { code = numberOf Einval; value = 0 }) (cond v (record { code = numberOf Ok; value = 0 }) (reached from len (coveredRun ps w from len))) .code ≡ 0)
+        → (cond {A = Answer} x (refused Einval) (cond v done (reached from len (coveredRun ps w from len))) .code ≡ 0)
         ↔ (((len ≢ 0) × (from + len ≤ 4294967295)) × (v ≡ false → EveryByte ps w from len))
     go true v (f, g) = (λ q. absurd (omega arith), λ p. absurd (true≢false (g (p .0))))
     go false true (f, g) = (λ q. (f refl, λ e. absurd (true≢false e)), λ p. refl)

@@ -7,10 +7,11 @@ use lib.Dec.{eqb, ltb, leb}
 use borrow.Author.Tests.{ltb-true, ltb-false, leb-false, eqb-true, eqb-false, lt-ltb, le-ltb, lt-leb, eq-eqb, ne-eqb, not-false}
 use Rattle.answer.specs.declared.Answer.{Answer}
 use Rattle.answer.specs.declared.Code.{Code}
-use Rattle.answer.specs.Answer.{numberOf}
+use Rattle.answer.specs.Answer.{numberOf, done}
 use Rattle.domain_rules.proofs.All.{both-true, both, either-true, or-left, or-right}
-use Rattle.judging.specs.Judge.{done, _⇒_⨾_}
-use Rattle.call_laws.proofs.Cascade.{ok, pass}
+use Rattle.judging.specs.Judge.{_⇒_⨾_}
+use Rattle.judging.specs.Passed.{ok}
+use Rattle.call_laws.proofs.Cascade.{pass}
 
 -- ---- numbers
 

@@ -25,11 +25,11 @@ use Rattle.tables.specs.State.{State, object, thread, domain}
 use Rattle.rules.specs.Rules.{isLive, Keeps}
 use Rattle.decoding.specs.declared.Call.{Call}
 use Rattle.decoding.specs.Calls.{Sup, create, delete, revoke, init, uninit, recycle, publish, thread as newThread, end, inherit, assign, add, remove, Op, validate, grant, release, check, exit, sup, unknown, opOf, callOf}
-use Rattle.judging.specs.Judge.{live, servesAt, serves, partitionOf, wellFormed, isAttr, useOf, rule, supRule, judge, heard}
+use Rattle.judging.specs.Judge.{live, servesAt, serves, partitionOf, wellFormed, useOf, rule, supRule, judge, heard}
 use Rattle.judging.specs.Change.{one, each, enact, inherited, objectChange, born, moved, threadChange, domainChange, change, after, left}
-use Rattle.call_laws.proofs.Cascade.{ok}
+use Rattle.judging.specs.Passed.{ok}
 use Rattle.call_laws.proofs.Enact.{enact-length, one-keeps, each-keeps, each-at, one-same, one-other}
-use Rattle.call_laws.proofs.Passed.{PassedAs, in-range}
+use Rattle.judging.specs.Passed.{PassedAs, in-range}
 use Rattle.call_laws.proofs.Parts.{threadIn, FineObject, FineThread, Alone, Parts, parts, whole, fine-flags, flags-set, flags-clear, fine-granted, fine-revoked, fine-recycled, fine-inherited, fine-fresh, revoked-none}
 use Rattle.call_laws.proofs.Slots.{slots-added, slots-removed}
 
@@ -215,10 +215,6 @@ inherited-none p c = go (ltb p THREADS) (isSet 0 p) (is-zero p)
     go true true e = absurd (true≢false e)
     go true false e = refl
 
-attr-ok : (n : ℕ) → isAttr n ≡ true → attrOk n ≡ true
-unfolding attrOk
-attr-ok n e = e
-
 -- a new thread's record
 born-live : (c : Call) → isLive (born c) ≡ true
 born-live c = go (eqb (c .c) 1)
@@ -287,9 +283,9 @@ sup-keeps assign s c p k =
     (record { dead = λ e. absurd (true≢false (sym l ∙ e)); role = g .role; home = λ _. home (c .c) b₃; handle = λ _. g .handle l })
     l (p .object _ .body (c .b) l refl) (λ u n m e. n (p .alone u (c .b) m l e))
 sup-keeps add s c p k =
-    let (b₁, r₁) = both-true (ltb (c .a) DOMAINS) (isAttr (c .d)) (k .fields) in
+    let (b₁, r₁) = both-true (ltb (c .a) DOMAINS) (attrOk (c .d)) (k .fields) in
     domain-keeps p (c .a) (λ ps. added (withCount ps) (partitionOf c) .domain .partitions)
-    (λ d. slots-added (p .slots (c .a) d) (partitionOf c) (attr-ok (c .d) r₁) (k .rule))
+    (λ d. slots-added (p .slots (c .a) d) (partitionOf c) r₁ (k .rule))
 sup-keeps remove s c p k =
     domain-keeps p (c .a) (λ ps. removed (withCount ps) (c .b) (c .c) .domain .partitions)
     (λ d. slots-removed (p .slots (c .a) d) (c .b) (c .c) (k .rule))

@@ -1,12 +1,10 @@
 pub mod Cascade
 pub mod Numbers
 pub mod Enact
-pub mod Passed
 pub mod Parts
 pub mod Slots
 pub mod Keeps
 pub mod Iff
-pub mod Bytes
 pub mod Conditions
 pub mod Operations
 pub mod Order

@@ -11,8 +11,8 @@ use Rattle.tables.specs.State.{State, object, thread, domain}
 use Rattle.decoding.specs.declared.Call.{Call}
 use Rattle.decoding.specs.Calls.{create, delete, revoke, init, uninit, recycle, publish, thread as newThread, end, inherit, assign, add, remove, Op, validate, grant, release, check, exit, sup, opOf}
 use Rattle.judging.specs.Judge.{live, supervisor, typeOf, mayUse, partitionOf, useOf, isPrivileged, judge}
-use Rattle.call_laws.proofs.Passed.{TakenAt}
-use Rattle.call_laws.proofs.Bytes.{EveryByte}
+use Rattle.judging.specs.Passed.{TakenAt}
+use Rattle.mem_check.specs.Runs.{EveryByte}
 use Rattle.call_laws.proofs.Conditions.{Mode, Attr, Home, FitsType, Unserved, Apart, Room, Match, Fields, UsedAt, RuleHolds, OkAs, ok-exactly}
 
 -- an operation by its number

@@ -13,7 +13,7 @@ use borrow.Author.Tests.{not-false, lt-ltb, le-ltb, lt-leb, leb-false}
 use Rattle.answer.specs.declared.Answer.{Answer}
 use Rattle.answer.specs.declared.Code.{Code}
 use Rattle.answer.specs.declared.Code.the-variants.{Ok, Einval, Eperm, Ebadf, Eaddrinuse, Enospc, Enoent, Short}
-use Rattle.answer.specs.Answer.{numberOf}
+use Rattle.answer.specs.Answer.{numberOf, refused, done}
 use Rattle.answer.specs.Given.{oneOf, either, one-of-more}
 use Rattle.mem_partition.specs.declared.MemPartition.{MemPartition}
 use Rattle.mem_domain.specs.Domain.{addable, hasFree, hasWindow, lowestFree, lowestWindow, withCount, changedAt, added, removed}
@@ -26,10 +26,10 @@ use Rattle.tables.specs.State.{State, object, thread, domain}
 use Rattle.mem_check.specs.Memory.{isCovered, coveredRun, reached, memoryRule}
 use Rattle.decoding.specs.declared.Call.{Call}
 use Rattle.decoding.specs.Calls.{create, delete, revoke, init, uninit, recycle, publish, thread as newThread, end, inherit, assign, add, remove, Op, validate, grant, release, check, exit, sup, unknown, opOf, callOf}
-use Rattle.judging.specs.Judge.{done, refused, _⇒_⨾_, live, supervisor, typeOf, mayUse, serves, modeOf, wellFormed, partitionOf, slotAnswer, Use, noHandle, taken, free, useOf, withHandle, rule, supRule, isUnknown, isPrivileged, judgeOp, judge, heard}
+use Rattle.judging.specs.Judge.{_⇒_⨾_, live, supervisor, typeOf, mayUse, serves, modeOf, wellFormed, partitionOf, slotAnswer, Use, noHandle, taken, free, useOf, withHandle, rule, supRule, isUnknown, isPrivileged, judgeOp, judge, heard}
 use Rattle.judging.specs.Change.{change, after, left}
 use Rattle.call_laws.proofs.Cascade.{stop, pass, past, Test, firstOf, testAt, FirstAt, None, Verdict, by, none, verdict, refuses, lets, refusals, Refusals, refusals-append, refusal-at, By, same-name, ok-exactly, code-exactly}
-use Rattle.call_laws.proofs.Bytes.{Least, run-all, run-least}
+use Rattle.mem_check.specs.Runs.{Least, run-all, run-least}
 use Rattle.call_laws.proofs.Conditions.{Mode, Fields, fields-iff}
 
 -- ---- the tests

@@ -11,12 +11,13 @@ use lib.ListN.{length, getD, set, take, drop, length-set, length-take, length-dr
 use borrow.Author.Tests.{eq-eqb, ne-eqb, lt-ltb, le-ltb}
 use Rattle.answer.specs.declared.Answer.{Answer}
 use Rattle.answer.specs.declared.Code.the-variants.{Ok, Short, Einval, Value, Room}
-use Rattle.answer.specs.Answer.{numberOf}
+use Rattle.answer.specs.Answer.{numberOf, refused}
+use Rattle.tables.specs.Table.{sized}
 use Rattle.tables.specs.State.{State, stateOf, Fit, objects-back, threads-back, domains-back, flatObjects, flatThreads, flatDomains}
 use Rattle.rules.specs.Rules.{Sound, keepsTest}
 use Rattle.decoding.specs.declared.Call.{Call}
 use Rattle.decoding.specs.Calls.{opOf, callOf}
-use Rattle.judging.specs.Judge.{refused, judge, heard, sized, judgeIn}
+use Rattle.judging.specs.Judge.{judge, heard, judgeIn}
 use Rattle.judging.specs.Change.{objectChange, threadChange, domainChange, after, left}
 use Rattle.judging.proofs.Sizes.{sized-by}
 use Rattle.applying.specs.Apply.{enactIn, enactObjects, enactThreads, enactSlots}
@@ -47,7 +48,7 @@ light-slots c ss (suc (suc (suc (suc n)))) h = absurd (omega arith)
 
 module _ {os ts ss : List ℕ} (sound : Sound os ts ss) where
   -- tables that keep the rules have the right lengths
-  its-lengths : sized os ts ss ≡ true
+  its-lengths : sized (length os) (length ts) (length ss) ≡ true
   unfolding sized
   its-lengths = rw (eq-eqb _ _ (sound .fit .objects), eq-eqb _ _ (sound .fit .threads), eq-eqb _ _ (sound .fit .slots))
 

@@ -8,10 +8,10 @@ use lib.Dec.{eqb, ltb}
 use lib.ListN.{length, set, take, drop}
 use Rattle.answer.specs.declared.Answer.{Answer}
 use Rattle.answer.specs.declared.Code.the-variants.{Ok, Value, Room}
-use Rattle.answer.specs.Answer.{numberOf}
+use Rattle.answer.specs.Answer.{numberOf, refused}
 use Rattle.tables.specs.State.{State, stateOf, flatObjects, flatThreads, flatDomains}
 use Rattle.rules.specs.Rules.{keepsTest}
-use Rattle.judging.specs.Judge.{refused, heard}
+use Rattle.judging.specs.Judge.{heard}
 use Rattle.judging.specs.Change.{left}
 use Rattle.calls.specs.declared.Ran.{Ran}
 

@@ -1,16 +1,13 @@
 -- Laws of tests: parts of a conjunction, one of a disjunction, and a test that every number below n passes.
-use Prim.Native.Nat.{ℕ, zero, suc, _+_, _≤_, _<_}
+use Prim.Native.Nat.{ℕ, zero, suc, _+_, _<_}
 use native.Mathlib.Numerals.{add-one}
 use native.Mathlib.Nat.{not-suc-le-zero, le-refl, eq-or-lt-of-le, le-of-suc-le-suc}
 use native.Mathlib.Omega.{arith}
-use mathlib.Core.Path.{_≡_, refl, sym, ap, _∙_}
-use mathlib.Core.Bool.{Bool, true, false, not, _&&_, _||_, true≢false, false≢true}
+use mathlib.Core.Path.{_≡_, refl, sym, _∙_}
+use mathlib.Core.Bool.{Bool, true, false, _&&_, _||_, true≢false}
 use mathlib.Core.Logic.{_⊎_, inl, inr, ⊎-elim}
 use Rattle.domain_rules.specs.Scan.{allTo}
-
-pub both-true : (a b : Bool) → a && b ≡ true → (a ≡ true) × (b ≡ true)
-both-true true b e = (refl, e)
-both-true false b e = absurd (false≢true e)
+pub use Rattle.answer.specs.Tests.{both-true}
 
 pub both : {a b : Bool} → a ≡ true → b ≡ true → a && b ≡ true
 both p q = rw (p, q)

@@ -9,7 +9,8 @@ use mem_partition::MemPartition;
 
 const SLOTS: usize = mem_domain::MAX_PARTITIONS as usize;
 
-fn attr_ok(attr: u32) -> bool
+// The attributes that a partition may have. Public for the call that adds one.
+pub fn attr_ok(attr: u32) -> bool
     ensures { λ r. ⌜ r ≡ attrOk attr ⌝ }
 {
     match attr {

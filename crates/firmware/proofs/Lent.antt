@@ -5,7 +5,7 @@ use mathlib.Core.Bool.{Bool, true, false}
 use mathlib.Core.List.{List}
 use lib.ListN.{length}
 use borrow.Author.Tests.{eq-eqb, ne-eqb}
-use Rattle.answer.specs.Answer.{numberOf}
+use Rattle.answer.specs.Answer.{numberOf, refused}
 use Rattle.answer.specs.declared.Answer.{Answer}
 use Rattle.answer.specs.declared.Code.the-variants.{Value}
 use Rattle.mem_domain.specs.Domain.{gotNothing, gotten}
@@ -13,7 +13,7 @@ use Rattle.mem_domain.specs.declared.MemDomain.{MemDomain}
 use Rattle.mem_domain.specs.declared.Changed.{Changed}
 use Rattle.mem_domain.specs.declared.Got.{Got}
 use Rattle.tables.specs.Table.{putDomain}
-use Rattle.mpu.specs.Mpu.{plain, checked}
+use Rattle.mpu.specs.Mpu.{checked}
 use Rattle.planner.specs.Planner.{Planned}
 use Rattle.image.specs.Read.{ReadIs}
 use Rattle.firmware.specs.Lent.{whole, domainIn, judged, said, told, gotIn, Changes, Plans, ReadsLeft}
@@ -58,7 +58,7 @@ module _ (ws : List ℕ) (other : length ws ≡ 48 → ⊥) where
   unfolding whole
   not-whole = ne-eqb _ _ other
 
-  pub judged-other : (a : Answer) → plain Value ≡ judged ws a
+  pub judged-other : (a : Answer) → refused Value ≡ judged ws a
   unfolding judged
   judged-other a = rw not-whole
 
@@ -66,14 +66,14 @@ module _ (ws : List ℕ) (other : length ws ≡ 48 → ⊥) where
   unfolding gotIn
   got-other k = rw not-whole
 
-  pub plan-other : (regions : ℕ) (before : List ℕ) → Plans ws regions before (plain Value) before
+  pub plan-other : (regions : ℕ) (before : List ℕ) → Plans ws regions before (refused Value) before
   unfolding judged
   plan-other regions before = record { answer = rw not-whole; words = rw not-whole }
 
   pub check-other : (a : Answer) → 9 ≡ judged ws a .code
   check-other a = ap (λ (x : Answer). x .code) (judged-other a)
 
-  pub change-other : (c : Changed) → Changes ws c (plain Value) ws
+  pub change-other : (c : Changed) → Changes ws c (refused Value) ws
   unfolding judged
   change-other c = record { answer = rw not-whole; words = rw not-whole }
 

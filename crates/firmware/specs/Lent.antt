@@ -5,7 +5,7 @@ use mathlib.Core.Bool.{Bool, cond}
 use mathlib.Core.List.{List, []}
 use lib.Dec.{eqb}
 use lib.ListN.{length, drop}
-use Rattle.answer.specs.Answer.{numberOf}
+use Rattle.answer.specs.Answer.{numberOf, refused}
 use Rattle.answer.specs.declared.Answer.{Answer}
 use Rattle.answer.specs.declared.Code.the-variants.{Ok, Value}
 use Rattle.mem_domain.specs.Domain.{slots, gotNothing, gotten}
@@ -13,7 +13,6 @@ use Rattle.mem_domain.specs.declared.MemDomain.{MemDomain}
 use Rattle.mem_domain.specs.declared.Changed.{Changed}
 use Rattle.mem_domain.specs.declared.Got.{Got}
 use Rattle.tables.specs.Table.{domainAt, putDomain}
-use Rattle.mpu.specs.Mpu.{plain}
 use Rattle.planner.specs.Planner.{planned, wordsAfter}
 use Rattle.image.specs.Read.{readCode, afterRead, totalOf, ReadIs}
 
@@ -28,7 +27,7 @@ domainIn ws = domainAt ws 0
 
 -- VALUE before all else
 unfoldable pub judged : List ℕ → Answer → Answer
-judged ws a = cond (whole ws) a (plain Value)
+judged ws a = cond (whole ws) a (refused Value)
 
 -- a question's answer: 1 or 0
 abbrev pub said : Bool → Answer

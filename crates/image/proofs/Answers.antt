@@ -1,5 +1,5 @@
 -- The reader's answers, in their order, and what each leaves: what a good header says, which images are accepted, and that a refusal changes nothing.
-use Prim.Native.Nat.{ℕ, _*_, _≤_, _<_}
+use Prim.Native.Nat.{ℕ, _≤_, _<_}
 use native.Mathlib.Nat.{le-refl}
 use native.Mathlib.Omega.{arith}
 use mathlib.Core.Path.{_≡_, refl, sym, _∙_}
@@ -12,14 +12,13 @@ use Rattle.answer.specs.Answer.{numberOf}
 use Rattle.answer.specs.declared.Answer.{Answer}
 use Rattle.answer.specs.declared.Code.the-variants.{Ok, Short, Magic, Value}
 use Rattle.domain_rules.proofs.All.{both-true}
-use Rattle.mem_domain.specs.Domain.{slots as SLOTS}
 use Rattle.userspace.specs.Userspace.{THREADS}
-use Rattle.tables.specs.Table.{HANDLES, DOMAINS}
+use Rattle.tables.specs.Table.{HANDLES, DOMAINS, sized}
 use Rattle.image_write.specs.Bytes.{magic}
 use Rattle.image_write.specs.Encode.{total, Written}
 use Rattle.image_write.proofs.Answers.{not-ok, ok, ok-long, ok-bytes}
 use Rattle.image_write.proofs.Turns.{encode-most}
-use Rattle.image.specs.Read.{objectCount, threadCount, domainCount, totalOf, readObjects, readThreads, readSlots, eqs, fieldsOk, headed, isImage, accepted, imageCode, sized, readCode, ReadIs}
+use Rattle.image.specs.Read.{objectCount, threadCount, domainCount, totalOf, readObjects, readThreads, readSlots, eqs, fieldsOk, headed, isImage, accepted, imageCode, readCode, ReadIs}
 use Rattle.image.proofs.Turns.{eqs-true}
 
 -- ---- the header's four tests, as truth values
@@ -111,13 +110,6 @@ module _ (b : List ℕ) where
       good-head f l = rw (le-ltb (length b) 16 h, e, ← em, ← en, ← ed, ← et, f, le-ltb (length b) t l) refl
 
 -- ---- what is left behind
-
-pub sizes : (m n k : ℕ) → sized m n k ≡ true → (m ≡ 2 * HANDLES) × (n ≡ 3 * THREADS) × (k ≡ 3 * (SLOTS * DOMAINS))
-unfolding sized
-sizes m n k z =
-    let p = both-true (eqb m (2 * HANDLES)) _ z in
-    let q = both-true (eqb n (3 * THREADS)) _ (p .1) in
-    (eqb-true _ _ (p .0), eqb-true _ _ (q .0), eqb-true _ _ (q .1))
 
 module _ (b os ts ss : List ℕ) where
   refused : (a : ℕ) → a ≡ readCode b os ts ss → (a ≡ 0 → ⊥) → ReadIs b os ts ss os ts ss [] a

@@ -4,7 +4,7 @@ use native.Mathlib.Nat.{pow-suc, add-sub-cancel-left, le-trans, le-refl, pow-le-
 use native.Mathlib.Numerals.{add-one}
 use native.Mathlib.Omega.{arith}
 use mathlib.Core.Path.{_≡_, refl, ap, _∙_}
-use mathlib.Core.Bool.{Bool, true, false, _&&_}
+use mathlib.Core.Bool.{Bool, true, false, _&&_, and-false}
 use mathlib.Core.List.{List, [], _∷_, _++_}
 use lib.Dec.{eqb, lit<}
 use lib.ListN.{length, take, drop, getD, set, length-drop}
@@ -60,10 +60,6 @@ eqs-long [] [] h = absurd (h refl)
 eqs-long [] (y ∷ b) h = refl
 eqs-long (x ∷ a) [] h = refl
 eqs-long (x ∷ a) (y ∷ b) h = rw (eqs-long a b (λ e. h (ap suc e))) (and-false (eqb x y))
-  where
-    and-false : (t : Bool) → (t && false) ≡ false
-    and-false true = refl
-    and-false false = refl
 
 pub eqs-end : (a b : List ℕ) → length a ≡ length b → eqs (drop (length a) a) (drop (length a) b) ≡ true
 unfolding eqs

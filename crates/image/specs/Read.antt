@@ -11,7 +11,7 @@ use Rattle.answer.specs.Answer.{numberOf}
 use Rattle.answer.specs.declared.Code.the-variants.{Ok, Short, Magic, Value}
 use Rattle.mem_domain.specs.Domain.{slots as SLOTS}
 use Rattle.userspace.specs.Userspace.{THREADS}
-use Rattle.tables.specs.Table.{HANDLES, DOMAINS}
+use Rattle.tables.specs.Table.{HANDLES, DOMAINS, sized}
 use Rattle.rules.specs.Rules.{keepsTest}
 use Rattle.answer.specs.Stores.{cat}
 use Rattle.image_write.specs.Bytes.{le, magic}
@@ -103,11 +103,7 @@ accepted b = isImage b (totalOf b) (readObjects b) (readThreads b) (readSlots b)
 unfoldable pub imageCode : List ℕ → ℕ
 imageCode b = headed b (cond (accepted b) (numberOf Ok) (numberOf Value))
 
--- the lent tables are as long as a state's
-unfoldable pub sized : ℕ → ℕ → ℕ → Bool
-sized m n k = eqb m (2 * HANDLES) && (eqb n (3 * THREADS) && eqb k (3 * (SLOTS * DOMAINS)))
-
--- tables of other lengths are VALUE before all else
+-- tables of other lengths than a state's are VALUE before all else
 unfoldable pub readCode : List ℕ → List ℕ → List ℕ → List ℕ → ℕ
 readCode b os ts ss = cond (sized (length os) (length ts) (length ss)) (imageCode b) (numberOf Value)
 

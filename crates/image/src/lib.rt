@@ -8,7 +8,7 @@ ghost use lib.ListN.{length};
 ghost use lib.Seq.{sets};
 ghost use Rattle.answer.specs.Stores.{cat};
 ghost use Rattle.image_write.specs.Bytes.{le, magic};
-ghost use Rattle.image.specs.Read.{objectIn, enter, entered, domainOf, domainsIn, eqs, fieldsOk, headed, isImage, sized, ReadIs, Fresh, Decoded};
+ghost use Rattle.image.specs.Read.{objectIn, enter, entered, domainOf, domainsIn, eqs, fieldsOk, headed, isImage, ReadIs, Fresh, Decoded};
 use image_write::DOMAIN;
 use image_write::HEADER;
 use image_write::LEAST;
@@ -247,18 +247,6 @@ fn is_image(image: &[u8], t: usize, objects: &[u64], threads: &[u32], slots: &[u
     same(again, there)
 }
 
-fn is_sized(m: usize, n: usize, k: usize) -> bool
-    ensures { λ r. ⌜ r ≡ sized m n k ⌝ }
-{
-    if m != OBJECT_NUMBERS {
-        return false;
-    }
-    if n != THREAD_NUMBERS {
-        return false;
-    }
-    k == SLOT_NUMBERS
-}
-
 // The reader: any bytes, tables of any length. On a refusal an empty part, and every table as it was.
 pub fn read<'a>(
     image: &'a [u8],
@@ -269,7 +257,7 @@ pub fn read<'a>(
 ) -> &'a [u8]
     ensures { λ r. ⌜ ReadIs (now (image .entry)) (now (objects .entry)) (now (threads .entry)) (now (slots .entry)) (now (objects .exit)) (now (threads .exit)) (now (slots .exit)) (now r) (now (answer .exit)) ⌝ }
 {
-    if !is_sized(objects.len(), threads.len(), slots.len()) {
+    if !tables::is_sized(objects.len(), threads.len(), slots.len()) {
         *answer = answer::VALUE;
         return &image[..0];
     }

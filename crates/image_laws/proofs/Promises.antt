@@ -8,22 +8,23 @@ use lib.Dec.{eqb, ltb}
 use lib.ListN.{length, take, drop}
 use lib.Seq.{take-append-seam, length-take-le}
 use borrow.Author.Tests.{le-ltb, ne-eqb}
-use Rattle.answer.specs.Answer.{numberOf}
+use Rattle.answer.specs.Answer.{numberOf, refused}
 use Rattle.answer.specs.declared.Answer.{Answer}
 use Rattle.answer.specs.declared.Code.{Code}
 use Rattle.answer.specs.declared.Code.the-variants.{Ok, Short, Magic, Value, Room}
 use Rattle.answer.specs.Given.{oneOf, either}
+use Rattle.tables.specs.Table.{sized}
 use Rattle.rules.specs.Rules.{Sound, keepsTest}
 use Rattle.rules.proofs.Rules.{test-sound, sound-test}
 use Rattle.image_write.specs.Bytes.{magic}
-use Rattle.image_write.specs.Encode.{encode, refusal, written, bytesAfter, Written}
-use Rattle.image.specs.Read.{objectCount, threadCount, domainCount, totalOf, readObjects, readThreads, readSlots, eqs, fieldsOk, headed, accepted, sized, imageCode, readCode, ReadIs}
+use Rattle.image_write.specs.Encode.{encode, written, bytesAfter, Written}
+use Rattle.image.specs.Read.{objectCount, threadCount, domainCount, totalOf, readObjects, readThreads, readSlots, eqs, fieldsOk, headed, accepted, imageCode, readCode, ReadIs}
 use Rattle.image.proofs.Answers.{head-is}
 use Rattle.image_laws.proofs.Round.{Back, image-ok, read-written, read-sound, written-read}
 
 -- ---- what OK of the writer says
 
-chain : (p q : Bool) (n : ℕ) → cond (not p) (refusal Value) (cond q (refusal Room) (record { code = numberOf Ok; value = n })) .code ≡ 0 → (p ≡ true) × (q ≡ false)
+chain : (p q : Bool) (n : ℕ) → cond (not p) (refused Value) (cond q (refused Room) (record { code = numberOf Ok; value = n })) .code ≡ 0 → (p ≡ true) × (q ≡ false)
 chain true true n e = absurd (omega arith)
 chain true false n e = (refl, refl)
 chain false q n e = absurd (omega arith)

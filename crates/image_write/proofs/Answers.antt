@@ -8,28 +8,28 @@ use mathlib.Core.List.{List, _++_}
 use lib.ListN.{length, take, drop}
 use lib.Seq.{sets, take-append-seam}
 use borrow.Author.Tests.{lt-ltb, le-ltb}
-use Rattle.answer.specs.Answer.{numberOf}
+use Rattle.answer.specs.Answer.{numberOf, refused}
 use Rattle.answer.specs.declared.Answer.{Answer}
 use Rattle.answer.specs.declared.Code.the-variants.{Ok, Value, Room}
 use Rattle.userspace.specs.Userspace.{THREADS}
-use Rattle.tables.specs.Table.{HANDLES}
+use Rattle.tables.specs.Table.{HANDLES, Sized}
 use Rattle.rules.specs.Rules.{keepsTest}
 use Rattle.rules.proofs.Rules.{test-sound}
-use Rattle.image_write.specs.Encode.{top, live, total, encode, refusal, written, bytesAfter, Written, Tables}
+use Rattle.image_write.specs.Encode.{top, live, total, encode, written, bytesAfter, Written}
 use Rattle.answer.specs.Stores.{sets-front}
 use Rattle.image_write.proofs.Turns.{encode-length, encode-most}
 
 -- a state that keeps the rules has tables of the right lengths
-pub tables-fit : (os ts ss : List ℕ) → keepsTest os ts ss ≡ true → Tables os ts ss
+pub tables-fit : (os ts ss : List ℕ) → keepsTest os ts ss ≡ true → Sized os ts ss
 tables-fit os ts ss e = let f = test-sound os ts ss e .fit in record { objects = f .objects; threads = f .threads; slots = f .slots }
 
 module _ (os ts ss out : List ℕ) where
-  pub broken : keepsTest os ts ss ≡ false → Written os ts ss out out (refusal Value)
+  pub broken : keepsTest os ts ss ≡ false → Written os ts ss out out (refused Value)
   unfolding written bytesAfter
   broken e = record { answer = rw e refl; bytes = rw e refl }
 
   module _ (e : keepsTest os ts ss ≡ true) where
-    pub short : length out < total (top os HANDLES) (live ts THREADS) → Written os ts ss out out (refusal Room)
+    pub short : length out < total (top os HANDLES) (live ts THREADS) → Written os ts ss out out (refused Room)
     unfolding written bytesAfter
     short k = let l = lt-ltb (length out) (length (encode os ts ss)) (rw encode-length k) in record { answer = rw (e, l) refl; bytes = rw (e, l) refl }
 

@@ -6,13 +6,12 @@ use mathlib.Core.Bool.{cond, not}
 use mathlib.Core.List.{List, [], _++_}
 use lib.Dec.{eqb, ltb}
 use lib.ListN.{length, take, drop, getD}
-use Rattle.answer.specs.Answer.{numberOf}
+use Rattle.answer.specs.Answer.{numberOf, refused}
 use Rattle.answer.specs.declared.Answer.{Answer}
-use Rattle.answer.specs.declared.Code.{Code}
 use Rattle.answer.specs.declared.Code.the-variants.{Ok, Value, Room}
 use Rattle.mem_domain.specs.Domain.{slots as SLOTS}
 use Rattle.userspace.specs.Userspace.{THREADS}
-use Rattle.tables.specs.Table.{HANDLES, DOMAINS}
+use Rattle.tables.specs.Table.{HANDLES, DOMAINS, Sized}
 use Rattle.rules.specs.Rules.{keepsTest}
 use Rattle.answer.specs.Stores.{cat}
 use Rattle.image_write.specs.Bytes.{bytes, magic}
@@ -63,14 +62,11 @@ encode os ts ss =
 
 -- ---- the writer
 
-abbrev pub refusal : Code → Answer
-refusal c = record { code = numberOf c; value = 0 }
-
 -- VALUE, then ROOM, else OK and the number of bytes
 unfoldable pub written : List ℕ → List ℕ → List ℕ → ℕ → Answer
 written os ts ss room =
-    cond (not (keepsTest os ts ss)) (refusal Value) (
-    cond (ltb room (length (encode os ts ss))) (refusal Room) (
+    cond (not (keepsTest os ts ss)) (refused Value) (
+    cond (ltb room (length (encode os ts ss))) (refused Room) (
     record { code = numberOf Ok; value = length (encode os ts ss) }))
 
 -- the lent buffer afterwards: on OK the image and then what lay behind it; a refusal changes nothing
@@ -85,15 +81,9 @@ pub record Written (os ts ss before after : List ℕ) (r : Answer) : Type 0 wher
 
 -- ---- what functions inside the writer ask
 
--- tables of the right lengths
-pub record Tables (os ts ss : List ℕ) : Type 0 where
-  pub objects : length os ≡ 512
-  pub threads : length ts ≡ 192
-  pub slots : length ss ≡ 384
-
 -- m and n are the counts, and the buffer is large enough
 pub record Roomy (os ts ss out : List ℕ) (m n : ℕ) : Type 0 where
-  pub tables : Tables os ts ss
+  pub tables : Sized os ts ss
   pub m-is : m ≡ top os HANDLES
   pub m-most : m ≤ HANDLES
   pub n-is : n ≡ live ts THREADS

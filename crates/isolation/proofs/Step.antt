@@ -11,7 +11,7 @@ use Rattle.decoding.specs.declared.Call.{Call}
 use Rattle.decoding.specs.Calls.{Op, validate, grant, release, check, exit, sup, unknown, opOf}
 use Rattle.judging.specs.Judge.{supervisor, isUnknown, isPrivileged, judge}
 use Rattle.judging.specs.Change.{after}
-use Rattle.call_laws.proofs.Passed.{in-range}
+use Rattle.judging.specs.Passed.{in-range}
 use Rattle.call_laws.proofs.Changes.{BitIs, OneObject, Ended, after-refused, validate-does, check-does, grant-does, release-does, exit-does}
 
 pub data Step (s : State) (c : Call) : Type 0 where

@@ -9,6 +9,7 @@ use mathlib.Core.Bool.{true, false, false≢true}
 use Rattle.mem_domain.specs.Scan.{firstFrom}
 use Rattle.mem_partition.specs.Partition.{isValid, meets, overlapOf, holds as windowHolds}
 use Rattle.mem_domain.specs.Domain.{withCount, clashes, addable, lowestFree, hasFree, added, changedAt as slotChanged}
+use Rattle.domain_rules.specs.Sound.{attrOk}
 use Rattle.bits.specs.Bit.{bitOf, isSet, setBit, clearBit}
 use Rattle.userspace.specs.declared.KernelObject.{KernelObject}
 use Rattle.userspace_decide.specs.Decide.{PUBLIC, INITIALISED, judged}
@@ -285,7 +286,7 @@ abbrev reads : Call
 reads = asks 3 radio 0 0x30000000 1 0
 
 slots-codes : (judge pump adds .code ≡ 0) × ((judge pump reads .code ≡ 2) × (judge (after pump adds) reads .code ≡ 0))
-unfolding ss os ts after change enact objectChange threadChange domainChange judge judgeOp opOf _⇒_⨾_ isUnknown isPrivileged wellFormed useOf withHandle rule supRule validated judged typeFits access object thread objectsOf threadsOf tabulate objectAt threadAt holds isSet bitOf domain domainsOf partitionsAt partitionAt withCount clashes addable lowestFree hasFree added slotChanged firstFrom isValid meets overlapOf windowHolds gives isCovered coveredRun reached memoryRule
+unfolding ss os ts after change enact objectChange threadChange domainChange judge judgeOp opOf _⇒_⨾_ isUnknown isPrivileged wellFormed attrOk useOf withHandle rule supRule validated judged typeFits access object thread objectsOf threadsOf tabulate objectAt threadAt holds isSet bitOf domain domainsOf partitionsAt partitionAt withCount clashes addable lowestFree hasFree added slotChanged firstFrom isValid meets overlapOf windowHolds gives isCovered coveredRun reached memoryRule
 slots-codes = (refl, (refl, refl))
 
 pub needs-slots : Needed slots

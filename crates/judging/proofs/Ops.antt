@@ -11,6 +11,7 @@ use native.Mathlib.Decide.{decLt}
 use Rattle.domain_rules.specs.Scan.{allTo}
 use Rattle.domain_rules.proofs.All.{all-at}
 use Rattle.answer.specs.Tests.{gt-eqb}
+use Rattle.answer.specs.Answer.{done}
 use Rattle.answer.specs.declared.Code.the-variants.{Einval}
 use Rattle.userspace.specs.Userspace.{THREADS}
 use Rattle.tables.specs.Table.{DOMAINS}
@@ -18,7 +19,7 @@ use Rattle.tables.specs.State.{State, object, thread, domain}
 use Rattle.judging.proofs.Order.{pass-not}
 use Rattle.decoding.specs.declared.Call.{Call}
 use Rattle.decoding.specs.Calls.{unknown, opOf}
-use Rattle.judging.specs.Judge.{done, wellFormed, bareFields, Use, taken, free, noHandle, useOf, withHandle, supRule, rule, isUnknown, isPrivileged, judgeOp, namedIn, inheritIn, createIn, checkIn, exitIn, addIn, removeIn, threadFields}
+use Rattle.judging.specs.Judge.{wellFormed, bareFields, Use, taken, free, noHandle, useOf, withHandle, supRule, rule, isUnknown, isPrivileged, judgeOp, namedIn, inheritIn, createIn, checkIn, exitIn, addIn, removeIn, threadFields}
 
 absurd-or : (n : ℕ) → 17 ≤ n → n < 19 → n ≢ 18 → n ≡ 17
 absurd-or n l p ne = go (decLt n 18)

@@ -6,7 +6,9 @@ use lib.Dec.{eqb, ltb, leb}
 use lib.ListN.{getD}
 use borrow.Author.Tests.{lt-leb, le-leb, eq-eqb, ne-eqb, not-true, not-false}
 use mathlib.Core.Logic.{_≢_}
+use Rattle.domain_rules.proofs.All.{both}
 use Rattle.tables.specs.declared.Thread.{Thread}
+use Rattle.answer.specs.Answer.{plain, refused}
 use Rattle.answer.specs.declared.Answer.{Answer}
 use Rattle.answer.specs.declared.Code.{Code}
 use Rattle.answer.specs.declared.Code.the-variants.{Einval, Eperm, Ebadf}
@@ -17,11 +19,11 @@ use Rattle.userspace_decide.specs.declared.Validated.the-variants.{Ok as Fine, 
 use Rattle.userspace_names.specs.declared.InitCheck.{InitCheck}
 use Rattle.userspace.specs.declared.KernelObject.{KernelObject}
 use Rattle.tables.specs.Table.{HANDLES, noObject}
-use Rattle.tables.specs.State.{State, object, thread}
+use Rattle.tables.specs.State.{State, object}
 use Rattle.rules.specs.Rules.{isLive, isSupervisor}
 use Rattle.decoding.specs.declared.Call.{Call}
 use Rattle.decoding.specs.Calls.{Op, opOf}
-use Rattle.judging.specs.Judge.{refused, _⇒_⨾_, live, supervisor, wellFormed, Use, noHandle, taken, useOf, withHandle, rule, isUnknown, isPrivileged, judgeOp, judge, takenIn, plain}
+use Rattle.judging.specs.Judge.{_⇒_⨾_, live, supervisor, wellFormed, Use, noHandle, taken, useOf, withHandle, rule, isUnknown, isPrivileged, judgeOp, judge, takenIn}
 
 -- a callee's answer by its contract, and the branch that says what it is not
 pub via-no : {x y : Bool} → x ≡ y → not x ≡ true → y ≡ false
@@ -100,9 +102,6 @@ module _ (o : Op) (s : State) (c : Call) where
   to-rule-bare e u = good-fields e ∙ ap (λ (x : Use). withHandle x s (c .a) (rule o s c)) u
 
 -- ---- fields, over plain truth values
-pub all-of : {x y : Bool} → x ≡ true → y ≡ true → x && y ≡ true
-all-of {x} {y} p q = ap (λ (b : Bool). b && y) p ∙ q
-
 pub first-fails : {x : Bool} (y : Bool) → x ≡ false → x && y ≡ false
 first-fails y p = ap (λ (b : Bool). b && y) p
 
@@ -152,7 +151,7 @@ module _ (s : State) (c : Call) where
 
         pub not-theirs : isPrivileged (opOf (c .op)) ≡ true → supervisor s (c .caller) ≡ false → judge s c ≡ refused Eperm
         unfolding judge
-        not-theirs p n = pass Einval _ (lt-leb _ _ known) ∙ pass-not Eperm _ lives ∙ pass Einval _ op ∙ stop Eperm _ (all-of p (ap not n))
+        not-theirs p n = pass Einval _ (lt-leb _ _ known) ∙ pass-not Eperm _ lives ∙ pass Einval _ op ∙ stop Eperm _ (both p (ap not n))
 
         pub theirs : isPrivileged (opOf (c .op)) ≡ true → supervisor s (c .caller) ≡ true → judge s c ≡ judgeOp (opOf (c .op)) s c
         unfolding judge

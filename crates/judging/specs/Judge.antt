@@ -1,40 +1,32 @@
 -- What each call answers: document 01's order, with readings 1 to 14. A refusal is a test with its name; the first that holds is the answer.
-use Prim.Native.Nat.{ℕ, _+_, _*_}
-use mathlib.Core.Path.{_≡_}
+use Prim.Native.Nat.{ℕ}
 use mathlib.Core.Bool.{Bool, true, false, cond, not, _&&_, _||_}
 use mathlib.Core.List.{List, []}
 use lib.Dec.{eqb, ltb, leb}
 use lib.ListN.{length, getD}
 use Rattle.answer.specs.declared.Answer.{Answer}
 use Rattle.answer.specs.declared.Code.{Code}
-use Rattle.answer.specs.declared.Code.the-variants.{Ok, Einval, Eperm, Ebadf, Eaddrinuse, Short, Value}
-use Rattle.answer.specs.Answer.{numberOf}
+use Rattle.answer.specs.declared.Code.the-variants.{Einval, Eperm, Ebadf, Eaddrinuse, Short, Value}
+use Rattle.answer.specs.Answer.{refused, done}
 use Rattle.mem_partition.specs.declared.MemPartition.{MemPartition}
 use Rattle.mem_domain.specs.declared.Changed.{Changed}
 use Rattle.mem_domain.specs.Scan.{anyTo}
-use Rattle.mem_domain.specs.Domain.{slots as SLOTS, withCount, added, removed}
+use Rattle.mem_domain.specs.Domain.{withCount, added, removed}
+use Rattle.domain_rules.specs.Sound.{attrOk}
 use Rattle.userspace_names.specs.declared.InitCheck.{InitCheck}
 use Rattle.userspace.specs.declared.KernelObject.{KernelObject}
 use Rattle.userspace_names.specs.declared.InitCheck.the-variants.{MustBeInit, MustNotBeInit, DontCare}
 use Rattle.userspace_decide.specs.Decide.{answerOf}
 use Rattle.userspace.specs.Userspace.{THREADS, access, validated}
 use Rattle.tables.specs.declared.Thread.{Thread}
-use Rattle.tables.specs.Table.{HANDLES, DOMAINS, noObject, nobody}
+use Rattle.tables.specs.Table.{HANDLES, DOMAINS, sized, noObject, nobody}
 use Rattle.tables.specs.State.{State, stateOf, object, thread, domain}
 use Rattle.rules.specs.Rules.{isLive, isSupervisor}
 use Rattle.mem_check.specs.Memory.{memoryRule}
 use Rattle.decoding.specs.declared.Call.{Call}
 use Rattle.decoding.specs.Calls.{Sup, create, delete, revoke, init, uninit, recycle, publish, thread as newThread, end, inherit, assign, add, remove, Op, validate, grant, release, check, exit, sup, unknown, opOf, callOf}
 
--- ---- answers
-
--- OK returns 0, but add and remove return the slot
-abbrev pub done : Answer
-done = record { code = numberOf Ok; value = 0 }
-
--- a refusal returns value 0
-abbrev pub refused : Code → Answer
-refused n = record { code = numberOf n; value = 0 }
+-- ---- answers: OK returns 0, but add and remove return the slot; a refusal returns 0, but the memory check the first address that is not covered
 
 -- the first test that holds refuses, with the name beside it
 infixr 20 _⇒_⨾_
@@ -76,10 +68,6 @@ isMode n = eqb n 0 || (eqb n 1 || eqb n 4294967295)
 abbrev pub modeOf : ℕ → InitCheck
 modeOf n = cond (eqb n 0) MustBeInit (cond (eqb n 1) DontCare MustNotBeInit)
 
--- 1, 3, 5, 7
-abbrev pub isAttr : ℕ → Bool
-isAttr n = eqb n 1 || (eqb n 3 || (eqb n 5 || eqb n 7))
-
 unfoldable pub wellFormed : Op → Call → Bool
 wellFormed validate c = ltb (c .b) 16 && (isMode (c .c) && zero? (c .d))
 wellFormed grant c = ltb (c .b) THREADS && (zero? (c .c) && zero? (c .d))
@@ -97,7 +85,7 @@ wellFormed (sup newThread) c = ltb (c .b) THREADS && (ltb (c .c) 2 && zero? (c .
 wellFormed (sup end) c = zero? (c .a) && (ltb (c .b) THREADS && (zero? (c .c) && zero? (c .d)))
 wellFormed (sup inherit) c = zero? (c .a) && (ltb (c .b) THREADS && (ltb (c .c) THREADS && zero? (c .d)))
 wellFormed (sup assign) c = zero? (c .a) && (ltb (c .b) THREADS && ((ltb (c .c) DOMAINS || eqb (c .c) 255) && zero? (c .d)))
-wellFormed (sup add) c = ltb (c .a) DOMAINS && isAttr (c .d)
+wellFormed (sup add) c = ltb (c .a) DOMAINS && attrOk (c .d)
 wellFormed (sup remove) c = ltb (c .a) DOMAINS && zero? (c .d)
 wellFormed unknown c = false
 
@@ -208,24 +196,11 @@ judge s c =
 unfoldable pub heard : State → List ℕ → Answer
 heard s bs = ltb (length bs) 16 ⇒ Short ⨾ ltb 16 (length bs) ⇒ Einval ⨾ judge s (callOf bs)
 
--- three tables that have the right lengths; as a statement and as a test
-pub record Sized (os ts ss : List ℕ) : Type 0 where
-  pub objects : length os ≡ 2 * HANDLES
-  pub threads : length ts ≡ 3 * THREADS
-  pub slots : length ss ≡ 3 * (SLOTS * DOMAINS)
-
-unfoldable pub sized : List ℕ → List ℕ → List ℕ → Bool
-sized os ts ss = eqb (length os) (2 * HANDLES) && (eqb (length ts) (3 * THREADS) && eqb (length ss) (3 * (SLOTS * DOMAINS)))
-
 -- what the tables answer: VALUE where they are no state at all
 unfoldable pub judgeIn : List ℕ → List ℕ → List ℕ → Call → Answer
-judgeIn os ts ss c = cond (sized os ts ss) (judge (stateOf os ts ss) c) (refused Value)
+judgeIn os ts ss c = cond (sized (length os) (length ts) (length ss)) (judge (stateOf os ts ss) c) (refused Value)
 
 -- ---- how the code goes
-
--- an answer with value 0
-abbrev pub plain : ℕ → Answer
-plain n = record { code = n; value = 0 }
 
 -- a handle that is below 256 and taken
 unfoldable pub takenIn : List KernelObject → ℕ → Bool

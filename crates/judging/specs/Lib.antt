@@ -1,2 +1,3 @@
 pub mod Judge
 pub mod Change
+pub mod Passed

@@ -6,14 +6,14 @@ ghost use mathlib.Core.Bool.{true, _&&_, _||_, not};
 ghost use Prim.Native.Nat.{_<_, _≤_};
 ghost use lib.Dec.{eqb, ltb, leb};
 ghost use lib.ListN.{getD, length};
-ghost use Rattle.tables.specs.Table.{noObject, nobody};
+ghost use Rattle.answer.specs.Answer.{plain};
+ghost use Rattle.tables.specs.Table.{noObject, nobody, Sized};
 ghost use Rattle.tables.specs.State.{objectsOf, threadsOf, domainsOf, stateOf};
-ghost use Rattle.userspace_decide.specs.Decide.{answerOf};
 ghost use Rattle.userspace.specs.Userspace.{access};
 ghost use Rattle.mem_domain.specs.Scan.{anyTo};
 ghost use Rattle.rules.specs.Rules.{isLive, isSupervisor};
 ghost use Rattle.decoding.specs.Calls.{opOf, validate as validate·op, grant as grant·op, release as release·op, check as check·op, exit as exit·op, sup, create, delete, thread as thread·op};
-ghost use Rattle.judging.specs.Judge.{isMode, modeOf, isAttr, wellFormed, serves as serves·spec, mayUse, rule, judgeOp, judge as judge·spec, sized, Sized, judgeIn, plain, takenIn, servingAt, checkIn, exitIn, createIn, namedIn, inheritIn, addIn, removeIn, bareFields, threadFields};
+ghost use Rattle.judging.specs.Judge.{isMode, modeOf, wellFormed, serves as serves·spec, mayUse, rule, judgeOp, judge as judge·spec, judgeIn, takenIn, servingAt, checkIn, exitIn, createIn, namedIn, inheritIn, addIn, removeIn, bareFields, threadFields};
 use answer::Answer;
 use answer::EADDRINUSE;
 use answer::EBADF;
@@ -25,13 +25,9 @@ use decoding::Call;
 use mem_partition::MemPartition;
 use tables::DOMAINS;
 use tables::HANDLES;
-use tables::OBJECT_NUMBERS;
-use tables::SLOT_NUMBERS;
-use tables::THREAD_NUMBERS;
 use tables::THREADS;
 use tables::Thread;
 use userspace::KernelObject;
-use userspace_decide::Validated;
 use userspace_names::InitCheck;
 
 fn plain_answer(code: u32) -> Answer
@@ -181,15 +177,6 @@ fn validate_fields(c: Call) -> bool
     false
 }
 
-fn number(v: Validated) -> u32
-    ensures { λ r. ⌜ r ≡ answerOf v .code ⌝ }
-{
-    match v {
-        Validated::Ok => OK,
-        Validated::Refused(n) => n,
-    }
-}
-
 // A type that was found below 16 is stored in a byte: the cast loses nothing.
 fn type_byte(n: u32) -> u8
     requires { ⌜ n < 16 ⌝ }
@@ -206,7 +193,7 @@ fn validate_rule(objects: &[u64], threads: &[u32], slots: &[u32], c: Call) -> An
     let supervisor = is_supervisor(threads, c.caller);
     let mode = mode_of(c.c);
     let kind = type_byte(c.b);
-    plain_answer(number(o.validate(kind, c.caller, supervisor, mode)))
+    plain_answer(userspace_decide::validated_number(o.validate(kind, c.caller, supervisor, mode)))
 }
 
 fn validate(objects: &[u64], threads: &[u32], slots: &[u32], c: Call) -> Answer
@@ -381,21 +368,6 @@ fn people_fields(c: Call) -> bool
     assign_fields(c)
 }
 
-fn is_attr(n: u32) -> bool
-    ensures { λ r. ⌜ r ≡ isAttr n ⌝ }
-{
-    if n == 1 {
-        return true;
-    }
-    if n == 3 {
-        return true;
-    }
-    if n == 5 {
-        return true;
-    }
-    n == 7
-}
-
 fn create_thread_rule(objects: &[u64], threads: &[u32], slots: &[u32], c: Call) -> Answer
     requires { ⌜ Sized (now objects) (now threads) (now slots) ⌝ }
     ensures { λ r. ⌜ r ≡ rule (sup thread·op) (stateOf (now (objects .entry)) (now (threads .entry)) (now (slots .entry))) c ⌝ }
@@ -512,7 +484,7 @@ fn add_call(slots: &[u32], c: Call) -> Answer
     if DOMAINS <= c.a {
         return plain_answer(EINVAL);
     }
-    if !is_attr(c.d) {
+    if !domain_rules::attr_ok(c.d) {
         return plain_answer(EINVAL);
     }
     let d = tables::load_domain(slots, c.a);
@@ -609,22 +581,11 @@ fn judge_sized(objects: &[u64], threads: &[u32], slots: &[u32], c: Call) -> Answ
     supervisor_call(&objects[..], &threads[..], &slots[..], c)
 }
 
-fn is_sized(objects: usize, threads: usize, slots: usize) -> bool
-    ensures { λ r. ⌜ r ≡ eqb objects 512 && (eqb threads 192 && eqb slots 384) ⌝ }
-{
-    if objects == OBJECT_NUMBERS {
-        if threads == THREAD_NUMBERS {
-            return slots == SLOT_NUMBERS;
-        }
-    }
-    false
-}
-
 // The answer to a call: of tables with any content and any lengths. Whether the state keeps the rules is not asked here: the caller asks it once.
 pub fn judge(objects: &[u64], threads: &[u32], slots: &[u32], c: Call) -> Answer
     ensures { λ r. ⌜ r ≡ judgeIn (now (objects .entry)) (now (threads .entry)) (now (slots .entry)) c ⌝ }
 {
-    if !is_sized(objects.len(), threads.len(), slots.len()) {
+    if !tables::is_sized(objects.len(), threads.len(), slots.len()) {
         return plain_answer(VALUE);
     }
     judge_sized(objects, threads, slots, c)

@@ -13,7 +13,8 @@ use Rattle.tables.specs.Tabulate.{getD-tabulate}
 use Rattle.tables.specs.Table.{partitionAt, partitionsAt}
 use Rattle.mem_check.specs.Memory.{gives, coversAt, isCovered, coveredRun}
 use Rattle.mem_check.specs.Windows.{Ahead, covers, runIn, Run}
-use Rattle.mem_check.proofs.Memory.{Covers, slot-means, slot-when, covered-when, covered-not, run-on, run-off, run-empty}
+use Rattle.mem_check.specs.Runs.{run-on, run-off, run-empty}
+use Rattle.mem_check.proofs.Memory.{Covers, slot-means, slot-when, covered-when, covered-not}
 
 -- ---- a slot
 

@@ -1,2 +1,3 @@
 pub mod Memory
 pub mod Windows
+pub mod Runs

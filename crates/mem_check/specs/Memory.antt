@@ -1,12 +1,12 @@
 -- The memory check, byte by byte: document 01, "Memory check". The slots are those of the caller's domain; with domain 255 there are none.
 use Prim.Native.Nat.{ℕ, zero, suc, _+_, _*_}
-use mathlib.Core.Bool.{Bool, cond, not, _&&_, _||_}
+use mathlib.Core.Bool.{Bool, cond, _&&_, _||_}
 use mathlib.Core.List.{List, []}
 use lib.Dec.{eqb, ltb, leb}
 use lib.ListN.{length}
 use Rattle.answer.specs.declared.Answer.{Answer}
-use Rattle.answer.specs.declared.Code.the-variants.{Ok, Einval, Eperm}
-use Rattle.answer.specs.Answer.{numberOf}
+use Rattle.answer.specs.declared.Code.the-variants.{Einval, Eperm}
+use Rattle.answer.specs.Answer.{numberOf, refused, done}
 use Rattle.mem_domain.specs.Scan.{anyTo}
 use Rattle.mem_domain.specs.Domain.{slots as SLOTS, slotAt, holdsAt}
 use Rattle.mem_partition.specs.declared.MemPartition.{MemPartition}
@@ -35,13 +35,13 @@ coveredRun ps write x (suc n) = cond (isCovered ps write x) (suc (coveredRun ps 
 
 -- n bytes in a row are covered: all of them, or EPERM with the first address that is not
 unfoldable pub reached : ℕ → ℕ → ℕ → Answer
-reached from len n = cond (leb len n) (record { code = numberOf Ok; value = 0 }) (record { code = numberOf Eperm; value = from + n })
+reached from len n = cond (leb len n) done (record { code = numberOf Eperm; value = from + n })
 
 -- length 0 or end > 4294967295 EINVAL; supervisors pass; otherwise every byte must be covered
 unfoldable pub memoryRule : List MemPartition → Bool → ℕ → ℕ → Bool → Answer
 memoryRule ps supervisor from len write =
-    cond (eqb len 0 || ltb 4294967295 (from + len)) (record { code = numberOf Einval; value = 0 })
-    (cond supervisor (record { code = numberOf Ok; value = 0 }) (reached from len (coveredRun ps write from len)))
+    cond (eqb len 0 || ltb 4294967295 (from + len)) (refused Einval)
+    (cond supervisor done (reached from len (coveredRun ps write from len)))
 
 -- the slots of domain d in a table of numbers; a domain that the table does not hold whole has none
 unfoldable pub slotsIn : List ℕ → ℕ → List MemPartition

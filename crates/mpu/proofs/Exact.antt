@@ -5,6 +5,7 @@ use mathlib.Core.List.{List, [], _∷_}
 use mathlib.Core.Bool.{Bool, true, false, cond, not, _&&_}
 use native.Mathlib.Omega.{arith}
 use borrow.Author.Tests.{eqb-true, eqb-false, eq-eqb, ne-eqb}
+use Rattle.answer.specs.Answer.{refused, done}
 use Rattle.answer.specs.declared.Answer.{Answer}
 use Rattle.answer.specs.declared.Code.{Code}
 use Rattle.answer.specs.declared.Code.the-variants.{Ok, Value, Differs}
@@ -12,7 +13,7 @@ use Rattle.answer.specs.Given.{oneOf, either}
 use Rattle.mem_partition.specs.declared.MemPartition.{MemPartition}
 use Rattle.mem_domain.specs.declared.MemDomain.{MemDomain}
 use Rattle.domain_rules.specs.Sound.{domainSound}
-use Rattle.mpu.specs.Mpu.{planOk, rightsOfPlan, rightsOfDomain, agreeAt, addresses, sameRights, plain, checked}
+use Rattle.mpu.specs.Mpu.{planOk, rightsOfPlan, rightsOfDomain, agreeAt, addresses, sameRights, checked}
 use Rattle.domain_rules.proofs.All.{all-at, all-from, all-fails}
 use Rattle.mpu.proofs.Table.{all-false}
 
@@ -45,22 +46,22 @@ module _ (l : List MemPartition) (plan : List ℕ) where
 
 -- the three answers, by the two tests that lead to them
 abbrev pick : Bool → Bool → Answer
-pick v s = cond (not v) (plain Value) (cond s (plain Ok) (plain Differs))
+pick v s = cond (not v) (refused Value) (cond s done (refused Differs))
 
 other : {A : Type 0} (x y : Answer) → x ≡ y → (x .code ≡ y .code → ⊥) → A
 other x y e n = absurd (n (ap (λ (r : Answer). r .code) e))
 
-pick-ok : (v s : Bool) → pick v s ≡ plain Ok → (v ≡ true) × (s ≡ true)
+pick-ok : (v s : Bool) → pick v s ≡ done → (v ≡ true) × (s ≡ true)
 pick-ok true true e = (refl, refl)
 pick-ok true false e = other _ _ e (λ n. omega arith)
 pick-ok false s e = other _ _ e (λ n. omega arith)
 
-pick-differs : (v s : Bool) → pick v s ≡ plain Differs → (v ≡ true) × (s ≡ false)
+pick-differs : (v s : Bool) → pick v s ≡ refused Differs → (v ≡ true) × (s ≡ false)
 pick-differs true true e = other _ _ e (λ n. omega arith)
 pick-differs true false e = (refl, refl)
 pick-differs false s e = other _ _ e (λ n. omega arith)
 
-pick-value : (v s : Bool) → pick v s ≡ plain Value → v ≡ false
+pick-value : (v s : Bool) → pick v s ≡ refused Value → v ≡ false
 pick-value true true e = other _ _ e (λ n. omega arith)
 pick-value true false e = other _ _ e (λ n. omega arith)
 pick-value false s e = refl
@@ -71,29 +72,29 @@ module _ (d : MemDomain) (plan : List ℕ) where
   formed = domainSound d && planOk plan
 
   -- OK: exactly when both are well formed and rights are equal at every address
-  pub ok-means : checked d plan ≡ plain Ok → (formed ≡ true) × Equal (d .partitions) plan
+  pub ok-means : checked d plan ≡ done → (formed ≡ true) × Equal (d .partitions) plan
   unfolding checked
   ok-means e = let w = pick-ok formed (sameRights (d .partitions) plan) e in (w .0, same-means _ plan (w .1))
 
-  pub ok-when : formed ≡ true → Equal (d .partitions) plan → checked d plan ≡ plain Ok
+  pub ok-when : formed ≡ true → Equal (d .partitions) plan → checked d plan ≡ done
   unfolding checked
   ok-when f e = rw (f, same-when (d .partitions) plan e)
 
   -- DIFFERS: exactly when both are well formed and there is an address where rights differ
-  pub differs-means : checked d plan ≡ plain Differs → (formed ≡ true) × Differ (d .partitions) plan
+  pub differs-means : checked d plan ≡ refused Differs → (formed ≡ true) × Differ (d .partitions) plan
   unfolding checked
   differs-means e = let w = pick-differs formed (sameRights (d .partitions) plan) e in (w .0, differ-means _ plan (w .1))
 
-  pub differs-when : formed ≡ true → Differ (d .partitions) plan → checked d plan ≡ plain Differs
+  pub differs-when : formed ≡ true → Differ (d .partitions) plan → checked d plan ≡ refused Differs
   unfolding checked
   differs-when f w = rw (f, differ-when (d .partitions) plan w)
 
   -- VALUE: exactly when the record breaks a rule or the plan is ill-formed
-  pub value-means : checked d plan ≡ plain Value → formed ≡ false
+  pub value-means : checked d plan ≡ refused Value → formed ≡ false
   unfolding checked
   value-means e = pick-value formed (sameRights (d .partitions) plan) e
 
-  pub value-when : formed ≡ false → checked d plan ≡ plain Value
+  pub value-when : formed ≡ false → checked d plan ≡ refused Value
   unfolding checked
   value-when f = rw f
 

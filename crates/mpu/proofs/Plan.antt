@@ -11,8 +11,8 @@ use Rattle.mem_domain.specs.Domain.{slots, slotAt}
 use Rattle.mem_partition.specs.declared.MemPartition.{MemPartition}
 use Rattle.mpu.specs.Mpu.{baseOf, topOf, rbarAt, rasrAt, regionsOf, regionHolds, rightsOfPlan, rightsOfDomain, agreeAt, addresses, sameRights}
 use Rattle.mpu.specs.Edges.{edgeAgrees, endsAgree, slotsTo, regionsTo, edgesAgree}
-use Rattle.domain_rules.proofs.All.{all-at, all-from, all-fails, both-true}
-use Rattle.mpu.proofs.Table.{last-same, all-false, both-false, one-false, any-true}
+use Rattle.domain_rules.proofs.All.{all-at, all-from, all-fails, both-true, either-true}
+use Rattle.mpu.proofs.Table.{last-same, all-false, both-false, one-false}
 use Rattle.mpu.proofs.Cover.{Steps, cover, isEnd, windows-same, end-of}
 
 module _ (l : List MemPartition) (plan : List ℕ) where
@@ -63,7 +63,7 @@ module _ (l : List MemPartition) (plan : List ℕ) where
 
   module _ (slots-agree : slotsTo l plan slots ≡ true) (regions-agree : regionsTo l plan (regionsOf plan) ≡ true) where
     at-cut : (e : ℕ) → cut e ≡ true → e < addresses → rightsOfPlan plan e ≡ rightsOfDomain l e
-    at-cut e c h = elim (any-true (cut₁ e) (cut₂ e) c) [
+    at-cut e c h = elim (either-true (cut₁ e) (cut₂ e) c) [
       | inl i ↦ let w = end-of baseAt topAt (regionsOf plan) e i in ends _ _ e (all-at _ _ (w .place) regions-agree (w .below)) (w .one) h
       | inr i ↦ let w = end-of startAt endAt slots e i in ends _ _ e (all-at _ _ (w .place) slots-agree (w .below)) (w .one) h
     ]

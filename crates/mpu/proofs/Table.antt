@@ -2,7 +2,7 @@
 use Prim.Native.Nat.{ℕ, zero, suc, _+_, _-_, _<_}
 use native.Mathlib.Numerals.{add-one}
 use mathlib.Core.Path.{_≡_, refl, sym, ap, _∙_}
-use mathlib.Core.Bool.{Bool, true, false, cond, _&&_, _||_, false≢true, true≢false, and-true, and-false}
+use mathlib.Core.Bool.{Bool, true, false, cond, _&&_, _||_, false≢true, true≢false, and-true}
 use mathlib.Core.Logic.{⊎-elim, _⊎_, inl, inr}
 use native.Mathlib.Nat.{not-suc-le-zero, le-refl, eq-or-lt-of-le, le-of-suc-le-suc}
 use native.Mathlib.Omega.{arith}
@@ -86,10 +86,6 @@ all-false f zero e = absurd (true≢false e)
 all-false f (suc n) e = all-false-step f n (f n) refl (all-false f n) e
 
 -- either part of a test
-pub any-true : (a b : Bool) → a || b ≡ true → (a ≡ true) ⊎ (b ≡ true)
-any-true true b e = inl refl
-any-true false b e = inr e
-
 pub both-false : (a b : Bool) → a || b ≡ false → (a ≡ false) × (b ≡ false)
 both-false true b e = absurd (true≢false e)
 both-false false b e = (refl, e)

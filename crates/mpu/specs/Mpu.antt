@@ -5,10 +5,9 @@ use mathlib.Core.Bool.{Bool, cond, not, _&&_, _||_}
 use mathlib.Core.List.{List}
 use lib.Dec.{leb, ltb, eqb}
 use lib.ListN.{length, getD}
-use Rattle.answer.specs.Answer.{numberOf}
+use Rattle.answer.specs.Answer.{refused, done}
 use Rattle.answer.specs.declared.Answer.{Answer}
-use Rattle.answer.specs.declared.Code.{Code}
-use Rattle.answer.specs.declared.Code.the-variants.{Ok, Value, Differs}
+use Rattle.answer.specs.declared.Code.the-variants.{Value, Differs}
 use Rattle.mem_domain.specs.Domain.{slots, slotAt, holdsAt}
 use Rattle.mem_partition.specs.declared.MemPartition.{MemPartition}
 use Rattle.mem_domain.specs.declared.MemDomain.{MemDomain}
@@ -122,16 +121,9 @@ addresses = 2 ^ 32
 unfoldable pub sameRights : List MemPartition → List ℕ → Bool
 sameRights l plan = allTo (agreeAt l plan) addresses
 
--- an answer with value 0
-abbrev pub numbered : ℕ → Answer
-numbered code = record { code = code; value = 0 }
-
-abbrev pub plain : Code → Answer
-plain c = numbered (numberOf c)
-
 -- VALUE for a record that breaks a rule or an ill-formed plan; else OK for equal rights; else DIFFERS
 unfoldable pub checked : MemDomain → List ℕ → Answer
 checked d plan =
-    cond (not (domainSound d && planOk plan)) (plain Value) (
-    cond (sameRights (d .partitions) plan) (plain Ok) (
-    plain Differs))
+    cond (not (domainSound d && planOk plan)) (refused Value) (
+    cond (sameRights (d .partitions) plan) done (
+    refused Differs))

@@ -9,7 +9,8 @@ ghost use lib.ListN.{length};
 ghost use Rattle.mem_partition.specs.Partition.{isActive, holds};
 ghost use Rattle.mem_domain.specs.Domain.{activeCount};
 ghost use Rattle.domain_rules.specs.Sound.{domainSound};
-ghost use Rattle.mpu.specs.Mpu.{baseOf, sizeOf, within, apRights, withExecute, regionRights, regionHolds, placeOk, reservedOk, regionOk, rbarAt, rasrAt, regionsOf, planOk, rightsOfPlan, rightsOfDomain, numbered, checked};
+ghost use Rattle.answer.specs.Answer.{plain as plain·spec};
+ghost use Rattle.mpu.specs.Mpu.{baseOf, sizeOf, within, apRights, withExecute, regionRights, regionHolds, placeOk, reservedOk, regionOk, rbarAt, rasrAt, regionsOf, planOk, rightsOfPlan, rightsOfDomain, checked};
 ghost use Rattle.mpu.specs.Edges.{edgeAgrees, endsAgree, slotsTo, regionsTo, edgesAgree};
 use answer::Answer;
 use mem_domain::MemDomain;
@@ -278,7 +279,7 @@ fn plan_ok(plan: &[u32]) -> bool
 }
 
 fn plain(code: u32) -> Answer
-    ensures { λ r. ⌜ r ≡ numbered code ⌝ }
+    ensures { λ r. ⌜ r ≡ plain·spec code ⌝ }
 {
     Answer { code, value: 0 }
 }

@@ -9,7 +9,7 @@ use borrow.Author.Tests.{ltb-true, ltb-false, le-leb, eq-eqb}
 use lib.Dec.{ltb}
 use lib.ListN.{length, take, drop}
 use lib.Seq.{take-at}
-use Rattle.answer.specs.Answer.{numberOf}
+use Rattle.answer.specs.Answer.{numberOf, refused, done}
 use Rattle.answer.specs.declared.Answer.{Answer}
 use Rattle.answer.specs.declared.Code.{Code}
 use Rattle.answer.specs.declared.Code.the-variants.{Ok, Einval, Value, Noplan, Room}
@@ -19,7 +19,7 @@ use Rattle.mem_domain.specs.Domain.{slotAt, activeCount}
 use Rattle.mem_partition.specs.declared.MemPartition.{MemPartition}
 use Rattle.mem_domain.specs.declared.MemDomain.{MemDomain}
 use Rattle.domain_rules.specs.Sound.{domainSound}
-use Rattle.mpu.specs.Mpu.{maxRegions, plain, checked}
+use Rattle.mpu.specs.Mpu.{maxRegions, checked}
 use Rattle.domain_rules.proofs.All.{all-fails}
 use Rattle.mpu.proofs.Table.{all-false, both-false}
 use Rattle.planner.specs.Planner.{isRegion, slotFits, slotsFit, planOf, wordCount, planned, wordsAfter, Planned}
@@ -31,10 +31,10 @@ use Rattle.planner.proofs.Right.{accepted}
 -- the answer, by the five tests that lead to it
 abbrev pick : Bool → Bool → Bool → Bool → Bool → ℕ → Answer
 pick v e f n r w =
-    cond (not v) (plain Value) (
-    cond e (plain Einval) (
-    cond (not f || n) (plain Noplan) (
-    cond r (plain Room) (
+    cond (not v) (refused Value) (
+    cond e (refused Einval) (
+    cond (not f || n) (refused Noplan) (
+    cond r (refused Room) (
     record { code = numberOf Ok; value = w }))))
 
 record Picked (v e f n r : Bool) : Type 0 where
@@ -83,7 +83,7 @@ ok-means d regions room q =
 
 -- EVERY PLAN THAT THE PLANNER MAKES IS ACCEPTED: the words that it says it wrote, read from the lent run, are right for the domain
 pub made-is-accepted : (d : MemDomain) (regions : ℕ) (out : List ℕ) → planned d regions (length out) .code ≡ numberOf Ok
-    → checked d (take (planned d regions (length out) .value) (wordsAfter d regions out)) ≡ plain Ok
+    → checked d (take (planned d regions (length out) .value) (wordsAfter d regions out)) ≡ done
 unfolding wordsAfter
 made-is-accepted d regions out q =
     let g = ok-means d regions (length out) q in
@@ -112,7 +112,7 @@ unfit-when l w = all-fails (λ k. slotFits (slotAt l k)) 16 (w .place) (w .below
 module _ (d : MemDomain) (regions room : ℕ) where
   -- NOPLAN: exactly when, the record and the number of regions being good, some active slot is no region or there are more active slots
   -- than regions
-  pub noplan-means : planned d regions room ≡ plain Noplan
+  pub noplan-means : planned d regions room ≡ refused Noplan
       → (domainSound d ≡ true) × (regions ≤ 16) × (Unfit (d .partitions) ⊎ (regions < activeCount (d .partitions)))
   unfolding planned
   noplan-means q =
@@ -127,12 +127,12 @@ module _ (d : MemDomain) (regions room : ℕ) where
       )
 
   cases : (s : domainSound d ≡ true) → (h : regions ≤ 16) → (f : Bool) → slotsFit (d .partitions) ≡ f → regions < activeCount (d .partitions)
-      → planned d regions room ≡ plain Noplan
+      → planned d regions room ≡ refused Noplan
   cases s h true f n = few d regions room s h f n
   cases s h false f n = unfit d regions room s h f
 
   pub noplan-when : domainSound d ≡ true → regions ≤ 16 → Unfit (d .partitions) ⊎ (regions < activeCount (d .partitions))
-      → planned d regions room ≡ plain Noplan
+      → planned d regions room ≡ refused Noplan
   noplan-when s h (inl w) = unfit d regions room s h (unfit-when (d .partitions) w)
   noplan-when s h (inr n) = cases s h (slotsFit (d .partitions)) refl n
 

@@ -1,6 +1,6 @@
 -- Every plan that the planner makes is accepted by the checker for the domain it was made from: it is well formed, and gives what the domain
 -- gives at every address.
-use Prim.Native.Nat.{ℕ, zero, suc, _+_, _*_, _/_, _%_, _^_, _-_, _<_, _≤_}
+use Prim.Native.Nat.{ℕ, zero, suc, _+_, _*_, _/_, _%_, _^_, _<_, _≤_}
 use mathlib.Core.Path.{_≡_, refl, ap, ap₂, _∙_}
 use mathlib.Core.List.{List, [], _∷_, _++_}
 use mathlib.Core.Bool.{Bool, true, false, cond, _&&_, _||_, not}
@@ -11,7 +11,7 @@ use borrow.Author.Tests.{eqb-true, eq-eqb, le-leb, not-true}
 use lib.Dec.{eqb}
 use lib.ListN.{length, List·getD-append}
 use lib.Seq.{getD-append-add, getD-at}
-use Rattle.answer.specs.declared.Code.the-variants.{Ok}
+use Rattle.answer.specs.Answer.{done}
 use Rattle.mem_domain.specs.Scan.{countTo}
 use Rattle.mem_partition.specs.Partition.{isActive, isValid, holds}
 use Rattle.mem_domain.specs.Domain.{slotAt, activeTo, activeCount}
@@ -20,9 +20,9 @@ use Rattle.mem_domain.specs.declared.MemDomain.{MemDomain}
 use Rattle.mpu.specs.Table.{lastOf}
 use Rattle.domain_rules.specs.Scan.{allTo}
 use Rattle.domain_rules.specs.Sound.{attrOk, slotOk, apartTo, slotSound, slotsSound, domainSound}
-use Rattle.mpu.specs.Mpu.{baseOf, sizeOf, apRights, withExecute, regionRights, regionHolds, placeOk, reservedOk, regionOk, rbarAt, rasrAt, regionsOf, okTo, planOk, planTo, domainTo, rightsOfPlan, rightsOfDomain, plain, checked}
-use Rattle.domain_rules.proofs.All.{both-true, all-same, all-at, all-more}
-use Rattle.mpu.proofs.Table.{any-true, last-step, last-same}
+use Rattle.mpu.specs.Mpu.{baseOf, sizeOf, apRights, withExecute, regionRights, regionHolds, placeOk, reservedOk, regionOk, rbarAt, rasrAt, regionsOf, okTo, planOk, planTo, domainTo, rightsOfPlan, rightsOfDomain, checked}
+use Rattle.domain_rules.proofs.All.{both-true, all-same, all-at, all-more, either-true}
+use Rattle.mpu.proofs.Table.{last-step, last-same}
 use Rattle.mpu.proofs.Exact.{ok-when}
 use Rattle.planner.specs.Planner.{fieldFor, rbarFor, xnFor, apFor, rasrFor, rbarOf, rasrOf, slotsFit, wordsTo, planOf}
 use Rattle.planner.proofs.Filled.{Slot, slot, by-32, words-length, plan-length, active-le, fits-at}
@@ -82,11 +82,11 @@ rights-of f attr n ap xn e h p q t = let w = rasr-fields f n h in rw (e, w .acce
 
 rights-back : (f attr : ℕ) → f < 32 → attrOk attr ≡ true → regionRights (rasrFor f attr) ≡ attr
 unfolding attrOk apRights withExecute
-rights-back f attr h t = elim (any-true (eqb attr 1) (eqb attr 3 || (eqb attr 5 || eqb attr 7)) t) [
+rights-back f attr h t = elim (either-true (eqb attr 1) (eqb attr 3 || (eqb attr 5 || eqb attr 7)) t) [
   | inl e ↦ rights-of f attr 1 6 1 (eqb-true _ _ e) h refl refl refl
-  | inr u ↦ elim (any-true (eqb attr 3) (eqb attr 5 || eqb attr 7) u) [
+  | inr u ↦ elim (either-true (eqb attr 3) (eqb attr 5 || eqb attr 7) u) [
     | inl e ↦ rights-of f attr 3 3 1 (eqb-true _ _ e) h refl refl refl
-    | inr v ↦ elim (any-true (eqb attr 5) (eqb attr 7) v) [
+    | inr v ↦ elim (either-true (eqb attr 5) (eqb attr 7) v) [
       | inl e ↦ rights-of f attr 5 6 0 (eqb-true _ _ e) h refl refl refl
       | inr e ↦ rights-of f attr 7 3 0 (eqb-true _ _ e) h refl refl refl
     ]
@@ -230,7 +230,7 @@ module _ (l : List MemPartition) (fit : slotsFit l ≡ true) (sound : slotsSound
       rw (eq-eqb _ _ e, le-leb _ _ f, half) (ok 16 (le-refl _))
 
 -- the checker accepts the plan of a sound domain whose slots can be regions
-pub accepted : (d : MemDomain) → domainSound d ≡ true → slotsFit (d .partitions) ≡ true → checked d (planOf (d .partitions)) ≡ plain Ok
+pub accepted : (d : MemDomain) → domainSound d ≡ true → slotsFit (d .partitions) ≡ true → checked d (planOf (d .partitions)) ≡ done
 unfolding domainSound
 accepted d s f =
     let w = both-true (slotsSound (d .partitions)) _ s .0 in

@@ -6,7 +6,8 @@ use mathlib.Core.Bool.{true}
 use lib.Dec.{lit<}
 use lib.ListN.{replicate}
 use borrow.Author.Tests.{eqb-false}
-use Rattle.answer.specs.declared.Code.the-variants.{Ok, Differs}
+use Rattle.answer.specs.Answer.{refused, done}
+use Rattle.answer.specs.declared.Code.the-variants.{Differs}
 use Rattle.mem_domain.specs.Scan.{countTo}
 use Rattle.mem_partition.specs.Partition.{empty, isValid, meets, overlapOf, holds}
 use Rattle.mem_domain.specs.Domain.{activeCount}
@@ -15,7 +16,7 @@ use Rattle.mem_domain.specs.declared.MemDomain.{MemDomain}
 use Rattle.mpu.specs.Table.{lastOf}
 use Rattle.domain_rules.specs.Scan.{allTo}
 use Rattle.domain_rules.specs.Sound.{attrOk, slotOk, apartOf, slotSound, slotsSound, domainSound}
-use Rattle.mpu.specs.Mpu.{baseOf, sizeOf, apRights, withExecute, regionRights, regionHolds, placeOk, reservedOk, regionOk, planOk, rightsOfPlan, rightsOfDomain, plain, checked}
+use Rattle.mpu.specs.Mpu.{baseOf, sizeOf, apRights, withExecute, regionRights, regionHolds, placeOk, reservedOk, regionOk, planOk, rightsOfPlan, rightsOfDomain, checked}
 use Rattle.mpu.proofs.Exact.{differs-when}
 use Rattle.planner.specs.Planner.{fieldFor, isRegion, rbarFor, xnFor, apFor, rasrFor, slotFits, slotsFit, wordsTo, planOf}
 use Rattle.planner.proofs.Right.{accepted}
@@ -59,7 +60,7 @@ unfolding domainSound slotsSound allTo slotSound slotOk attrOk apartOf isValid o
 three-is-sound = refl
 
 -- right for its domain
-pub ok-worked : checked three plan-three ≡ plain Ok
+pub ok-worked : checked three plan-three ≡ done
 ok-worked = rw (sym words-worked) (accepted three three-is-sound three-fits)
 
 less-is-formed : planOk plan-less ≡ true
@@ -67,7 +68,7 @@ unfolding planOk allTo regionOk placeOk reservedOk baseOf sizeOf
 less-is-formed = refl
 
 -- DIFFERS once AP is 6
-pub differs-worked : checked three plan-less ≡ plain Differs
+pub differs-worked : checked three plan-less ≡ refused Differs
 unfolding regionHolds baseOf sizeOf apRights withExecute regionRights rightsOfPlan rightsOfDomain holds lastOf
 differs-worked =
     differs-when three plan-less (rw (three-is-sound, less-is-formed)) (record { at = 0x20001000; below = lit< tt; differ = eqb-false 1 3 refl })

@@ -5,7 +5,7 @@ use mathlib.Core.List.{List, [], _∷_, _++_}
 use mathlib.Core.Bool.{Bool, cond, not, _&&_, _||_}
 use lib.Dec.{leb, ltb, eqb}
 use lib.ListN.{length, drop, set}
-use Rattle.answer.specs.Answer.{numberOf}
+use Rattle.answer.specs.Answer.{numberOf, refused}
 use Rattle.answer.specs.declared.Answer.{Answer}
 use Rattle.answer.specs.declared.Code.the-variants.{Ok, Einval, Value, Noplan, Room}
 use Rattle.mem_partition.specs.Partition.{isFree, isActive}
@@ -15,7 +15,7 @@ use Rattle.mem_domain.specs.declared.MemDomain.{MemDomain}
 use Rattle.mpu.specs.Table.{lastOf}
 use Rattle.domain_rules.specs.Scan.{allTo}
 use Rattle.domain_rules.specs.Sound.{domainSound}
-use Rattle.mpu.specs.Mpu.{maxRegions, plain}
+use Rattle.mpu.specs.Mpu.{maxRegions}
 
 -- the SIZE whose region has that size, 2^(SIZE+1); 0 where no region has
 unfoldable pub fieldFor : ℕ → ℕ
@@ -84,10 +84,10 @@ wordCount l = activeCount l * 2
 -- VALUE; over 16 regions EINVAL; NOPLAN for a slot that is no region, or too few regions; ROOM; else OK and the words written
 unfoldable pub planned : MemDomain → ℕ → ℕ → Answer
 planned d regions room =
-    cond (not (domainSound d)) (plain Value) (
-    cond (ltb maxRegions regions) (plain Einval) (
-    cond (not (slotsFit (d .partitions)) || ltb regions (activeCount (d .partitions))) (plain Noplan) (
-    cond (ltb room (wordCount (d .partitions))) (plain Room) (
+    cond (not (domainSound d)) (refused Value) (
+    cond (ltb maxRegions regions) (refused Einval) (
+    cond (not (slotsFit (d .partitions)) || ltb regions (activeCount (d .partitions))) (refused Noplan) (
+    cond (ltb room (wordCount (d .partitions))) (refused Room) (
     record { code = numberOf Ok; value = wordCount (d .partitions) }))))
 
 -- the lent words afterwards: on OK the plan and then what lay behind it; a refusal changes nothing

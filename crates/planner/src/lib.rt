@@ -7,7 +7,7 @@ ghost use mathlib.Core.List.{_++_};
 ghost use Prim.Native.Nat.{_+_, _*_, _%_, _^_, _<_, _≤_};
 ghost use lib.ListN.{length, set, drop};
 ghost use Rattle.mem_partition.specs.Partition.{isActive};
-ghost use Rattle.mpu.specs.Mpu.{numbered};
+ghost use Rattle.answer.specs.Answer.{plain};
 ghost use Rattle.planner.specs.Planner.{fieldFor, isRegion, rbarFor, xnFor, apFor, rasrFor, slotFits, slotsFit, nextRegion, putSlot, planOf, wordCount, Planned};
 use answer::Answer;
 use mem_domain::MemDomain;
@@ -147,7 +147,7 @@ fn fill(domain: MemDomain, out: &mut [u32])
 }
 
 fn refuse(code: u32) -> Answer
-    ensures { λ r. ⌜ r ≡ numbered code ⌝ }
+    ensures { λ r. ⌜ r ≡ plain code ⌝ }
 {
     Answer { code, value: 0 }
 }

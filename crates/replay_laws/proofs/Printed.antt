@@ -2,8 +2,8 @@
 use Prim.Native.Nat.{ℕ, zero, suc, _+_, _*_, _≤_, _<_}
 use native.Mathlib.Decide.{decLt}
 use native.Mathlib.Omega.{arith}
-use mathlib.Core.Path.{_≡_, refl, sym, ap, _∙_}
-use mathlib.Core.List.{List, [], _++_}
+use mathlib.Core.Path.{_≡_, refl, _∙_}
+use mathlib.Core.List.{List}
 use lib.ListN.{length, set, getD, length-set}
 use lib.Seq.{getD-set-same, getD-set-other}
 use Rattle.answer.specs.declared.Answer.{Answer}
@@ -11,6 +11,7 @@ use Rattle.answer.specs.Stores.{cat}
 use Rattle.tables.specs.State.{State}
 use Rattle.image_write.proofs.Bytes.{cat-same}
 use Rattle.calls.specs.Calls.{partAt, putAnswer, answersTo}
+use Rattle.calls.proofs.Laws.{put-length}
 use Rattle.lines.specs.Lines.{line, lineAt}
 use Rattle.explain.specs.Words.{explained, explainedAt}
 use Rattle.replay_laws.proofs.Pieces.{answerAt}
@@ -19,10 +20,6 @@ use Rattle.replay_laws.proofs.Pieces.{answerAt}
 record At (out : List ℕ) (k : ℕ) (a : Answer) : Type 0 where
   code : getD out (2 * k) 0 ≡ a .code
   value : getD out (2 * k + 1) 0 ≡ a .value
-
-put-length : (out : List ℕ) (k : ℕ) (a : Answer) → length (putAnswer out k a) ≡ length out
-unfolding putAnswer
-put-length out k a = length-set (set out (2 * k) (a .code)) (2 * k + 1) (a .value) ∙ length-set out (2 * k) (a .code)
 
 answers-length : (s : State) (log out : List ℕ) (n : ℕ) → length (answersTo s log out n) ≡ length out
 unfolding answersTo

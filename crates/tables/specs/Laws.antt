@@ -4,19 +4,31 @@ use Prim.Native.Nat.{ℕ, zero, suc, _+_, _*_, _/_, _%_, _≤_, _<_}
 use native.Mathlib.Decide.{ℕ-discrete, decLt}
 use mathlib.Core.Path.{_≡_, refl, sym, ap, _∙_}
 use mathlib.Core.Logic.{_≢_}
-use mathlib.Core.List.{List, [], _∷_}
+use mathlib.Core.Bool.{true}
+use mathlib.Core.List.{List}
 use native.Mathlib.Omega.{arith}
-use borrow.Author.Tests.{lt-ltb, le-ltb}
+use borrow.Author.Tests.{lt-ltb, le-ltb, eqb-true}
+use lib.Dec.{eqb}
 use lib.ListN.{length, getD}
 use lib.Seq.{length-sets}
+use Rattle.answer.specs.Tests.{both-true}
 use Rattle.mem_partition.specs.Partition.{empty}
 use Rattle.mem_domain.specs.Domain.{slots as SLOTS}
 use Rattle.mem_partition.specs.declared.MemPartition.{MemPartition}
+use Rattle.userspace.specs.Userspace.{THREADS}
 use Rattle.userspace.specs.declared.KernelObject.{KernelObject}
 use Rattle.tables.specs.declared.Thread.{Thread}
 use Rattle.tables.specs.Rows.{apart-2, apart-3, sets-comm, at2-same, at2-other, at2-out, at3-same, at3-other, at3-out}
-use Rattle.tables.specs.Tabulate.{tabulate, tabulate-ext, tabulate-getD}
-use Rattle.tables.specs.Table.{noObject, nobody, objectOf, objectAt, putObject, objectRow, threadOf, threadAt, putThread, threadRow, partitionOf, partitionAt, putPartition, partitionRow, slotAt, putSlot, partitionsAt, putTo}
+use Rattle.tables.specs.Tabulate.{tabulate-ext, tabulate-getD}
+use Rattle.tables.specs.Table.{HANDLES, DOMAINS, sized, noObject, nobody, objectOf, objectAt, putObject, objectRow, threadOf, threadAt, putThread, threadRow, partitionOf, partitionAt, putPartition, partitionRow, slotAt, putSlot, partitionsAt, putTo}
+
+-- three lengths that pass the test are a state's
+pub sizes : (m n k : ℕ) → sized m n k ≡ true → (m ≡ 2 * HANDLES) × (n ≡ 3 * THREADS) × (k ≡ 3 * (SLOTS * DOMAINS))
+unfolding sized
+sizes m n k z =
+    let p = both-true (eqb m (2 * HANDLES)) _ z in
+    let q = both-true (eqb n (3 * THREADS)) _ (p .1) in
+    (eqb-true _ _ (p .0), eqb-true _ _ (q .0), eqb-true _ _ (q .1))
 
 -- ---- objects
 

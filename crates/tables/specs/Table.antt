@@ -1,18 +1,19 @@
 -- The three tables of numbers and the records in them. Behind a table's end a record is all zero and a store does nothing: that is what
 -- `getD .. 0` and `set` say, so nobody who loads or stores has to be careful.
-use Prim.Native.Nat.{ℕ, zero, suc, _+_, _*_, _/_, _%_, _≤_, _<_}
+use Prim.Native.Nat.{ℕ, zero, suc, _+_, _*_, _/_, _%_}
 use mathlib.Core.Path.{_≡_, refl}
 use native.Mathlib.Numerals.{add-one}
-use mathlib.Core.Bool.{cond}
+use mathlib.Core.Bool.{Bool, cond, _&&_}
 use mathlib.Core.List.{List, [], _∷_}
-use lib.Dec.{ltb}
-use lib.ListN.{getD}
+use lib.Dec.{eqb, ltb}
+use lib.ListN.{length, getD}
 use lib.Seq.{sets}
 use Rattle.mem_partition.specs.Partition.{empty}
 use Rattle.mem_domain.specs.Domain.{withCount}
 use Rattle.mem_domain.specs.Domain.{slots as SLOTS}
 use Rattle.mem_partition.specs.declared.MemPartition.{MemPartition}
 use Rattle.mem_domain.specs.declared.MemDomain.{MemDomain}
+use Rattle.userspace.specs.Userspace.{THREADS}
 use Rattle.userspace.specs.declared.KernelObject.{KernelObject}
 use Rattle.tables.specs.declared.Thread.{Thread}
 use Rattle.tables.specs.Rows.{at2, at3}
@@ -24,6 +25,15 @@ HANDLES = 256
 
 abbrev pub DOMAINS : ℕ
 DOMAINS = 8
+
+-- how long a state's three tables are: as a statement, and as a test of three lengths
+pub record Sized (os ts ss : List ℕ) : Type 0 where
+  pub objects : length os ≡ 2 * HANDLES
+  pub threads : length ts ≡ 3 * THREADS
+  pub slots : length ss ≡ 3 * (SLOTS * DOMAINS)
+
+unfoldable pub sized : ℕ → ℕ → ℕ → Bool
+sized m n k = eqb m (2 * HANDLES) && (eqb n (3 * THREADS) && eqb k (3 * (SLOTS * DOMAINS)))
 
 -- ---- an object: at 2h its head, type + 256 * flags, at 2h + 1 its word
 abbrev pub noObject : KernelObject

@@ -5,7 +5,7 @@
 ghost use mathlib.Core.Path.{_≡_};
 ghost use Prim.Native.Nat.{_<_, _^_};
 ghost use lib.ListN.{getD, set};
-ghost use Rattle.tables.specs.Table.{threadAt, putThread, partitionAt, putPartition, slotAt, putSlot, partitionsAt, domainAt, putDomain};
+ghost use Rattle.tables.specs.Table.{sized, threadAt, putThread, partitionAt, putPartition, slotAt, putSlot, partitionsAt, domainAt, putDomain};
 use mem_domain::MemDomain;
 use mem_partition::MemPartition;
 
@@ -30,6 +30,19 @@ pub struct Thread {
     pub role: u32,
     pub domain: u32,
     pub handle: u32,
+}
+
+// Whether three tables are as long as a state's.
+pub fn is_sized(objects: usize, threads: usize, slots: usize) -> bool
+    ensures { λ r. ⌜ r ≡ sized objects threads slots ⌝ }
+{
+    if objects != OBJECT_NUMBERS {
+        return false;
+    }
+    if threads != THREAD_NUMBERS {
+        return false;
+    }
+    slots == SLOT_NUMBERS
 }
 
 fn at32(xs: &[u32], i: usize) -> u32

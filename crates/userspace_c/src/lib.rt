@@ -2,10 +2,8 @@
 // changes is written where the caller says. Each function is the leaf's own, with the leaf's promise; nothing is decided here.
 ghost use mathlib.Core.Path.{_≡_};
 ghost use Rattle.userspace_names.specs.Names.{modeOf};
-ghost use Rattle.userspace_decide.specs.Decide.{answerOf};
 ghost use Rattle.userspace_c.specs.Exported.{Grants, Revokes, Recycles, Queries, mayUse, validCode};
 use userspace::KernelObject;
-use userspace_decide::Validated;
 use userspace_names::InitCheck;
 use userspace_names::NamedCheck;
 
@@ -79,7 +77,7 @@ pub extern "C" fn userspace_validate(
 ) -> u32
     ensures { λ r. ⌜ r ≡ validCode kind flags word expected tid supervisor mode ⌝ }
 {
-    number(object(kind, flags, word).validate(expected, tid, supervisor, check(mode)))
+    userspace_decide::validated_number(object(kind, flags, word).validate(expected, tid, supervisor, check(mode)))
 }
 
 fn check(mode: i32) -> InitCheck
@@ -88,14 +86,5 @@ fn check(mode: i32) -> InitCheck
     match userspace_names::init_check_of(mode) {
         NamedCheck::Is(c) => c,
         NamedCheck::Nothing => InitCheck::DontCare,
-    }
-}
-
-fn number(v: Validated) -> u32
-    ensures { λ r. ⌜ r ≡ answerOf v .code ⌝ }
-{
-    match v {
-        Validated::Ok => answer::OK,
-        Validated::Refused(n) => n,
     }
 }

@@ -9,6 +9,7 @@ use Rattle.userspace_decide.proofs.init_flags_decide.Reads as init-flag
 use Rattle.userspace_decide.proofs.uninit_flags_decide.Reads as uninit-flags-decide
 use Rattle.userspace_decide.proofs.recycle_flags_decide.Reads as recycle-flags-decide
 use Rattle.userspace_decide.proofs.make_public_flags_decide.Reads as make-public-flags-decide
+use Rattle.userspace_decide.proofs.validated_number.Reads as validated-number
 
 pub access-decide-unique :
     (a : _) (r₁ r₂ : Bool) (s₁ s₂ : _) → access-decide.Post (tt {0}) a r₁ s₁ → access-decide.Post (tt {0}) a r₂ s₂ → r₁ ≡ r₂
@@ -33,3 +34,7 @@ recycle-flags-decide-unique a r₁ r₂ s₁ s₂ p q = p ∙ sym q
 pub make-public-flags-decide-unique :
     (a : _) (r₁ r₂ : ℕ) (s₁ s₂ : _) → make-public-flags-decide.Post (tt {0}) a r₁ s₁ → make-public-flags-decide.Post (tt {0}) a r₂ s₂ → r₁ ≡ r₂
 make-public-flags-decide-unique a r₁ r₂ s₁ s₂ p q = p ∙ sym q
+
+pub validated-number-unique :
+    (a : _) (r₁ r₂ : ℕ) (s₁ s₂ : _) → validated-number.Post (tt {0}) a r₁ s₁ → validated-number.Post (tt {0}) a r₂ s₂ → r₁ ≡ r₂
+validated-number-unique a r₁ r₂ s₁ s₂ p q = p ∙ sym q

@@ -4,7 +4,7 @@ ghost use mathlib.Core.Path.{_≡_};
 ghost use mathlib.Core.Bool.{_||_};
 ghost use Rattle.bits.specs.Bit.{setBit, clearBit};
 ghost use Rattle.userspace_names.specs.Names.{modeOf};
-ghost use Rattle.userspace_decide.specs.Decide.{INITIALISED, PUBLIC, judged};
+ghost use Rattle.userspace_decide.specs.Decide.{INITIALISED, PUBLIC, judged, answerOf};
 
 // The flags that upstream's decisions set and clear; the record's constants are these.
 pub const FLAG_INITIALIZED: u8 = 1;
@@ -66,4 +66,14 @@ pub fn make_public_flags_decide(flags: u8) -> u8
     ensures { λ r. ⌜ r ≡ setBit flags PUBLIC ⌝ }
 {
     flags | FLAG_PUBLIC
+}
+
+// The table's number of a validation's answer, for whoever answers with numbers.
+pub fn validated_number(v: Validated) -> u32
+    ensures { λ r. ⌜ r ≡ answerOf v .code ⌝ }
+{
+    match v {
+        Validated::Ok => answer::OK,
+        Validated::Refused(n) => n,
+    }
 }

@@ -4,8 +4,9 @@ use native.Mathlib.Omega.{arith}
 use lib.ListN.{length, drop}
 use borrow.Author.Tests.{not-true, not-false}
 use Rattle.answer.specs.Tests.{via}
+use Rattle.tables.specs.Laws.{sizes}
 use Rattle.image.proofs.Turns.{part-rest}
-use Rattle.image.proofs.Answers.{head-is, sizes, wrong-size, wrong-head, wrong-contents, right}
+use Rattle.image.proofs.Answers.{head-is, wrong-size, wrong-head, wrong-contents, right}
 use borrow.Author.Needs.{needs}
 use Rattle.image.proofs.read.Statement.{statement}
 use Rattle.image.proofs.read.Tie as tie

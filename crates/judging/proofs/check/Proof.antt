@@ -3,9 +3,10 @@ use mathlib.Core.Path.{sym, _∙_}
 use native.Mathlib.Omega.{arith}
 use borrow.Author.Tests.{lt-ltb, le-ltb, eq-eqb, ne-eqb}
 use Rattle.answer.specs.declared.Code.the-variants.{Einval}
+use Rattle.domain_rules.proofs.All.{both}
 use Rattle.tables.specs.State.{domain}
 use Rattle.judging.specs.Judge.{wellFormed}
-use Rattle.judging.proofs.Order.{all-of, first-fails, second-fails, stop-not, pass-not}
+use Rattle.judging.proofs.Order.{first-fails, second-fails, stop-not, pass-not}
 use Rattle.mem_check.proofs.Memory.{slots-in}
 use Rattle.judging.specs.Judge.{checkIn}
 use borrow.Author.Needs.{needs}
@@ -46,7 +47,7 @@ memory-check-requires c κs = search needs
 -- src/lib.rt:310:1
 returns-3 : tie.Need-returns-3
 unfolding checkIn wellFormed
-returns-3 c = (c .memory-check .ensures) ∙ rw (slots-in ((c .before .before .before .before .before .before .before .before .before .before .args .slots .now)) ((c .before .before .before .thread-in .result .domain)) (c .before .before .before .before .before .before .before .before .before .before .pre .1), (c .before .before .before .thread-in .ensures)) (sym (pass-not Einval _ (all-of (eq-eqb _ _ (c .before .before .before .before .before .before .if1 .left)) (lt-ltb ((c .before .before .before .before .before .before .before .before .before .before .args .c .d)) 2 (omega (arith, (c .before .before .before .before .if2 .left)))))))
+returns-3 c = (c .memory-check .ensures) ∙ rw (slots-in ((c .before .before .before .before .before .before .before .before .before .before .args .slots .now)) ((c .before .before .before .thread-in .result .domain)) (c .before .before .before .before .before .before .before .before .before .before .pre .1), (c .before .before .before .thread-in .ensures)) (sym (pass-not Einval _ (both (eq-eqb _ _ (c .before .before .before .before .before .before .if1 .left)) (lt-ltb ((c .before .before .before .before .before .before .before .before .before .before .args .c .d)) 2 (omega (arith, (c .before .before .before .before .if2 .left)))))))
 
 pub check-spec : {M : Type 1} → statement M
 check-spec =

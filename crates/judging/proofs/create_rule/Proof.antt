@@ -3,9 +3,10 @@ use Prim.Native.Nat.{_-_}
 use mathlib.Core.Path.{sym, ap, _∙_}
 use lib.Dec.{eqb}
 use borrow.Author.Tests.{le-leb, lt-leb, eq-eqb, ne-eqb}
+use Rattle.answer.specs.Answer.{done}
 use Rattle.answer.specs.declared.Code.the-variants.{Ebadf, Eaddrinuse}
 use Rattle.userspace.specs.declared.KernelObject.{KernelObject}
-use Rattle.judging.specs.Judge.{done, createIn}
+use Rattle.judging.specs.Judge.{createIn}
 use borrow.Author.Needs.{needs}
 use Rattle.judging.proofs.create_rule.Statement.{statement}
 use Rattle.judging.proofs.create_rule.Tie as tie

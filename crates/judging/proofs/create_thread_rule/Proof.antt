@@ -4,10 +4,11 @@ use mathlib.Core.Path.{sym, ap, _∙_}
 use lib.Dec.{eqb}
 use borrow.Author.Tests.{eq-eqb, ne-eqb}
 use Rattle.answer.specs.Tests.{via}
+use Rattle.answer.specs.Answer.{done}
 use Rattle.answer.specs.declared.Code.the-variants.{Ebadf, Eaddrinuse}
 use Rattle.tables.specs.State.{object, thread}
 use Rattle.userspace.specs.declared.KernelObject.{KernelObject}
-use Rattle.judging.specs.Judge.{rule, supRule, done, serves as serves·spec}
+use Rattle.judging.specs.Judge.{rule, supRule, serves as serves·spec}
 use borrow.Author.Needs.{needs}
 use Rattle.judging.proofs.create_thread_rule.Statement.{statement}
 use Rattle.judging.proofs.create_thread_rule.Tie as tie

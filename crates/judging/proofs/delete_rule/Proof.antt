@@ -1,9 +1,10 @@
 use Prim.Native.Nat.{_-_}
 use mathlib.Core.Path.{sym, _∙_}
 use Rattle.answer.specs.Tests.{via}
+use Rattle.answer.specs.Answer.{done}
 use Rattle.answer.specs.declared.Code.the-variants.{Eaddrinuse}
 use Rattle.tables.specs.State.{thread}
-use Rattle.judging.specs.Judge.{rule, supRule, done, serves as serves·spec}
+use Rattle.judging.specs.Judge.{rule, supRule, serves as serves·spec}
 use Rattle.judging.proofs.Order.{stop, pass}
 use borrow.Author.Needs.{needs}
 use Rattle.judging.proofs.delete_rule.Statement.{statement}

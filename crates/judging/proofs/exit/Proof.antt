@@ -1,9 +1,11 @@
-use Rattle.judging.proofs.Order.{all-of, first-fails, second-fails, via-no, via-yes, stop-not, pass-not}
+use Rattle.domain_rules.proofs.All.{both}
+use Rattle.judging.proofs.Order.{first-fails, second-fails, via-no, via-yes, stop-not, pass-not}
 use Prim.Native.Nat.{_-_}
 use mathlib.Core.Path.{sym, _∙_}
 use borrow.Author.Tests.{eq-eqb, ne-eqb}
+use Rattle.answer.specs.Answer.{done}
 use Rattle.answer.specs.declared.Code.the-variants.{Einval}
-use Rattle.judging.specs.Judge.{wellFormed, exitIn, done}
+use Rattle.judging.specs.Judge.{wellFormed, exitIn}
 use borrow.Author.Needs.{needs}
 use Rattle.judging.proofs.exit.Statement.{statement}
 use Rattle.judging.proofs.exit.Tie as tie
@@ -41,7 +43,7 @@ plain-answer-requires-3 c κs = search needs
 -- src/lib.rt:295:1
 returns-3 : tie.Need-returns-3
 unfolding exitIn wellFormed
-returns-3 c = (c .plain-answer3 .ensures) ∙ sym (pass-not Einval done (all-of (eq-eqb _ _ (c .before .before .before .if1 .left)) (via-yes (c .before .before .bare-fields .ensures) (c .before .if2 .left))))
+returns-3 c = (c .plain-answer3 .ensures) ∙ sym (pass-not Einval done (both (eq-eqb _ _ (c .before .before .before .if1 .left)) (via-yes (c .before .before .bare-fields .ensures) (c .before .if2 .left))))
 
 pub exit-spec : {M : Type 1} → statement M
 exit-spec =

@@ -1,14 +1,13 @@
 use Prim.Native.Nat.{_-_}
 use mathlib.Core.Path.{sym, _∙_}
 use Rattle.judging.proofs.Order.{via-no, via-yes}
-use Rattle.judging.specs.Judge.{sized}
 use Rattle.judging.proofs.Sizes.{sized-by, by-sized, unsized}
 use borrow.Author.Needs.{needs}
 use Rattle.judging.proofs.judge.Statement.{statement}
 use Rattle.judging.proofs.judge.Tie as tie
 use Rattle.judging.proofs.judge.Reads as reads
 use Rattle.judging.proofs.judge.Lts as lts
-use Rattle.judging.proofs.is_sized.Reads as is-sized-reads
+use Rattle.tables.proofs.is_sized.Reads as is-sized-reads
 use Rattle.judging.proofs.judge_sized.Reads as judge-sized-reads
 use Rattle.judging.proofs.plain_answer.Reads as plain-answer-reads
 
@@ -22,17 +21,14 @@ plain-answer-requires c κs = search needs
 
 -- src/lib.rt:662:9
 returns : tie.Need-returns
-unfolding sized
 returns c = (c .plain-answer .ensures) ∙ sym (unsized _ _ _ _ (via-no (c .before .before .is-sized .ensures) (c .before .if1 .taken)))
 
 -- src/lib.rt:664:5
 judge-sized-requires : tie.Need-judge-sized-requires
-unfolding sized
 judge-sized-requires c κs = by-sized _ _ _ (via-yes (c .before .is-sized .ensures) (c .if1 .left))
 
 -- src/lib.rt:658:1
 returns-2 : tie.Need-returns-2
-unfolding sized
 returns-2 c = (c .judge-sized .ensures) ∙ sym (sized-by _ _ _ _ (via-yes (c .before .before .is-sized .ensures) (c .before .if1 .left)))
 
 pub judge-spec : {M : Type 1} → statement M

@@ -1,7 +1,8 @@
 use Prim.Native.Nat.{_-_}
 use mathlib.Core.Path.{sym, _∙_}
+use Rattle.answer.specs.Answer.{done}
 use Rattle.answer.specs.declared.Code.the-variants.{Einval}
-use Rattle.judging.specs.Judge.{done, namedIn}
+use Rattle.judging.specs.Judge.{namedIn}
 use Rattle.judging.proofs.Order.{via-no, via-yes, stop-not, pass-not}
 use borrow.Author.Needs.{needs}
 use Rattle.judging.proofs.named_rule.Statement.{statement}

@@ -1,8 +1,9 @@
 use mathlib.Core.Path.{refl, sym, _∙_}
+use Rattle.answer.specs.Answer.{done}
 use Rattle.answer.specs.declared.Code.the-variants.{Eperm}
 use Rattle.tables.specs.State.{object, thread}
 use Rattle.decoding.specs.Calls.{release}
-use Rattle.judging.specs.Judge.{wellFormed, useOf, rule, done}
+use Rattle.judging.specs.Judge.{wellFormed, useOf, rule}
 use Rattle.judging.proofs.Order.{via-no, via-yes, stop-not, pass-not, bad-fields, bad-handle, to-rule}
 use borrow.Author.Needs.{needs}
 use Rattle.judging.proofs.release.Statement.{statement}

@@ -2,9 +2,10 @@ use Prim.Native.Nat.{_-_}
 use mathlib.Core.Path.{sym, ap, _∙_}
 use borrow.Author.Tests.{lt-ltb, le-ltb, eq-eqb, ne-eqb}
 use Rattle.answer.specs.declared.Code.the-variants.{Einval}
+use Rattle.domain_rules.proofs.All.{both}
 use Rattle.tables.specs.State.{domain-of}
 use Rattle.judging.specs.Judge.{wellFormed, removeIn}
-use Rattle.judging.proofs.Order.{all-of, first-fails, second-fails, stop-not, pass-not}
+use Rattle.judging.proofs.Order.{first-fails, second-fails, stop-not, pass-not}
 use Rattle.mem_domain.specs.Domain.{withCount, removed}
 use Rattle.mem_domain.specs.declared.MemDomain.{MemDomain}
 use Rattle.judging.specs.Judge.{slotAnswer}
@@ -46,7 +47,7 @@ remove-partition-requires c κs = search needs
 -- src/lib.rt:565:1
 returns-3 : tie.Need-returns-3
 unfolding removeIn wellFormed
-returns-3 c = ap slotAnswer ((c .remove-partition .ensures) ∙ ap (λ (m : MemDomain). removed m ((c .before .before .before .before .before .before .before .args .c .b)) ((c .before .before .before .before .before .before .before .args .c .c))) ((c .before .load-domain .ensures) ∙ ap withCount (sym (domain-of ((c .before .before .before .before .before .before .before .args .slots .now)) ((c .before .before .before .before .before .before .before .args .c .a)) (c .before .before .before .before .if1 .left))))) ∙ sym (pass-not Einval _ (all-of (lt-ltb _ _ (c .before .before .before .before .if1 .left)) (eq-eqb _ _ (c .before .before .if2 .left))))
+returns-3 c = ap slotAnswer ((c .remove-partition .ensures) ∙ ap (λ (m : MemDomain). removed m ((c .before .before .before .before .before .before .before .args .c .b)) ((c .before .before .before .before .before .before .before .args .c .c))) ((c .before .load-domain .ensures) ∙ ap withCount (sym (domain-of ((c .before .before .before .before .before .before .before .args .slots .now)) ((c .before .before .before .before .before .before .before .args .c .a)) (c .before .before .before .before .if1 .left))))) ∙ sym (pass-not Einval _ (both (lt-ltb _ _ (c .before .before .before .before .if1 .left)) (eq-eqb _ _ (c .before .before .if2 .left))))
 
 pub remove-call-spec : {M : Type 1} → statement M
 remove-call-spec =

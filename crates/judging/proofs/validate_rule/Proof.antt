@@ -1,11 +1,10 @@
 use Prim.Native.Nat.{_-_}
 use mathlib.Core.Path.{ap, _∙_}
+use Rattle.answer.specs.Answer.{plain}
 use Rattle.tables.specs.State.{object, thread}
 use Rattle.decoding.specs.Calls.{validate}
 use Rattle.judging.specs.Judge.{rule}
-use Rattle.judging.specs.Judge.{plain}
 use Rattle.judging.proofs.Order.{validated-plain, validated-same}
-use Rattle.judging.specs.Judge.{plain}
 use borrow.Author.Needs.{needs}
 use Rattle.judging.proofs.validate_rule.Statement.{statement}
 use Rattle.judging.proofs.validate_rule.Tie as tie
@@ -13,7 +12,6 @@ use Rattle.judging.proofs.validate_rule.Reads as reads
 use Rattle.judging.proofs.validate_rule.Lts as lts
 use Rattle.judging.proofs.is_supervisor.Reads as is-supervisor-reads
 use Rattle.judging.proofs.mode_of.Reads as mode-of-reads
-use Rattle.judging.proofs.number.Reads as number-reads
 use Rattle.judging.proofs.object_in.Reads as object-in-reads
 use Rattle.judging.proofs.plain_answer.Reads as plain-answer-reads
 use Rattle.judging.proofs.type_byte.Reads as type-byte-reads
@@ -41,8 +39,8 @@ validate-requires : tie.Need-validate-requires
 validate-requires c κs = search needs
 
 -- src/lib.rt:257:18
-number-requires : tie.Need-number-requires
-number-requires c κs = search needs
+validated-number-requires : tie.Need-validated-number-requires
+validated-number-requires c κs = search needs
 
 -- src/lib.rt:257:5
 plain-answer-requires : tie.Need-plain-answer-requires
@@ -51,7 +49,7 @@ plain-answer-requires c κs = search needs
 -- src/lib.rt:249:1
 returns : tie.Need-returns
 unfolding rule object thread
-returns c = (c .plain-answer .ensures) ∙ ap plain (c .before .number .ensures) ∙ validated-plain ((c .before .before .validate .ensures) ∙ validated-same _ (c .before .before .before .before .before .before .object-in .ensures) (c .before .before .before .type-byte .ensures) (c .before .before .before .before .before .is-supervisor .ensures) (c .before .before .before .before .mode-of .ensures))
+returns c = (c .plain-answer .ensures) ∙ ap plain (c .before .validated-number .ensures) ∙ validated-plain ((c .before .before .validate .ensures) ∙ validated-same _ (c .before .before .before .before .before .before .object-in .ensures) (c .before .before .before .type-byte .ensures) (c .before .before .before .before .before .is-supervisor .ensures) (c .before .before .before .before .mode-of .ensures))
 
 pub validate-rule-spec : {M : Type 1} → statement M
 validate-rule-spec =
@@ -62,6 +60,6 @@ validate-rule-spec =
     mode-of-requires
     type-byte-requires
     validate-requires
-    number-requires
+    validated-number-requires
     plain-answer-requires
     returns)

@@ -1,5 +1,6 @@
 use mathlib.Core.Path.{sym}
-use Rattle.mem_check.proofs.Memory.{in-none, in-whole, run-off, none-covered}
+use Rattle.mem_check.specs.Runs.{run-off}
+use Rattle.mem_check.proofs.Memory.{in-none, in-whole, none-covered}
 use borrow.Author.Needs.{needs}
 use Rattle.mem_check.proofs.covered_in.Statement.{statement}
 use Rattle.mem_check.proofs.covered_in.Tie as tie

@@ -3,7 +3,7 @@ use mathlib.Core.Path.{refl}
 use borrow.Author.Tests.{not-true, not-false}
 use Rattle.answer.specs.Tests.{via}
 use Rattle.planner.proofs.Filled.{counted}
-use Rattle.planner.proofs.Answers.{value, einval, unfit, few, short, good, refused, written}
+use Rattle.planner.proofs.Answers.{value, einval, unfit, few, short, good, refuses, written}
 use borrow.Author.Needs.{needs}
 use Rattle.planner.proofs.plan.Statement.{statement}
 use Rattle.planner.proofs.plan.Tie as tie
@@ -32,7 +32,7 @@ refuse-requires c κs = search needs
 
 -- src/lib.rt:162:9
 returns : tie.Need-returns
-returns c = refused _ _ _ 9 refl (value _ _ _ (via (c .before .before .is-sound .ensures) (not-true _ (c .before .if1 .taken)))) _ (c .refuse .ensures)
+returns c = refuses _ _ _ 9 refl (value _ _ _ (via (c .before .before .is-sound .ensures) (not-true _ (c .before .if1 .taken)))) _ (c .refuse .ensures)
 
 -- src/lib.rt:165:9
 refuse-requires-2 : tie.Need-refuse-requires-2
@@ -40,7 +40,7 @@ refuse-requires-2 c κs = search needs
 
 -- src/lib.rt:165:9
 returns-2 : tie.Need-returns-2
-returns-2 c = refused _ _ _ 1 refl (einval _ _ _ (via (c .before .before .before .is-sound .ensures) (not-false _ (c .before .before .if1 .left))) (c .before .if2 .taken)) _ (c .refuse2 .ensures)
+returns-2 c = refuses _ _ _ 1 refl (einval _ _ _ (via (c .before .before .before .is-sound .ensures) (not-false _ (c .before .before .if1 .left))) (c .before .if2 .taken)) _ (c .refuse2 .ensures)
 
 -- src/lib.rt:167:9
 slots-fit-requires : tie.Need-slots-fit-requires
@@ -52,7 +52,7 @@ refuse-requires-3 c κs = search needs
 
 -- src/lib.rt:168:9
 returns-3 : tie.Need-returns-3
-returns-3 c = refused _ _ _ 10 refl (unfit _ _ _ (via (c .before .before .before .before .before .is-sound .ensures) (not-false _ (c .before .before .before .before .if1 .left))) (c .before .before .before .if2 .left) (via (c .before .before .slots-fit .ensures) (not-true _ (c .before .if3 .taken)))) _ (c .refuse3 .ensures)
+returns-3 c = refuses _ _ _ 10 refl (unfit _ _ _ (via (c .before .before .before .before .before .is-sound .ensures) (not-false _ (c .before .before .before .before .if1 .left))) (c .before .before .before .if2 .left) (via (c .before .before .slots-fit .ensures) (not-true _ (c .before .if3 .taken)))) _ (c .refuse3 .ensures)
 
 -- src/lib.rt:171:9
 refuse-requires-4 : tie.Need-refuse-requires-4
@@ -60,7 +60,7 @@ refuse-requires-4 c κs = search needs
 
 -- src/lib.rt:171:9
 returns-4 : tie.Need-returns-4
-returns-4 c = let s = via (c .before .before .before .before .before .before .is-sound .ensures) (not-false _ (c .before .before .before .before .before .if1 .left)) in refused _ _ _ 10 refl (few _ _ _ s (c .before .before .before .before .if2 .left) (via (c .before .before .before .slots-fit .ensures) (not-false _ (c .before .before .if3 .left))) (rw (counted _ s) at (c .before .if4 .taken))) _ (c .refuse4 .ensures)
+returns-4 c = let s = via (c .before .before .before .before .before .before .is-sound .ensures) (not-false _ (c .before .before .before .before .before .if1 .left)) in refuses _ _ _ 10 refl (few _ _ _ s (c .before .before .before .before .if2 .left) (via (c .before .before .before .slots-fit .ensures) (not-false _ (c .before .before .if3 .left))) (rw (counted _ s) at (c .before .if4 .taken))) _ (c .refuse4 .ensures)
 
 -- src/lib.rt:174:9
 refuse-requires-5 : tie.Need-refuse-requires-5
@@ -68,7 +68,7 @@ refuse-requires-5 c κs = search needs
 
 -- src/lib.rt:174:9
 returns-5 : tie.Need-returns-5
-returns-5 c = let s = via (c .before .before .before .before .before .before .before .is-sound .ensures) (not-false _ (c .before .before .before .before .before .before .if1 .left)) in refused _ _ _ 11 refl (short _ _ _ s (c .before .before .before .before .before .if2 .left) (via (c .before .before .before .before .slots-fit .ensures) (not-false _ (c .before .before .before .if3 .left))) (rw (counted _ s) at (c .before .before .if4 .left)) (rw (counted _ s) at (c .before .if5 .taken))) _ (c .refuse5 .ensures)
+returns-5 c = let s = via (c .before .before .before .before .before .before .before .is-sound .ensures) (not-false _ (c .before .before .before .before .before .before .if1 .left)) in refuses _ _ _ 11 refl (short _ _ _ s (c .before .before .before .before .before .if2 .left) (via (c .before .before .before .before .slots-fit .ensures) (not-false _ (c .before .before .before .if3 .left))) (rw (counted _ s) at (c .before .before .if4 .left)) (rw (counted _ s) at (c .before .if5 .taken))) _ (c .refuse5 .ensures)
 
 -- src/lib.rt:176:5
 fill-requires : tie.Need-fill-requires

@@ -1,4 +1,4 @@
--- What an OK says of its call before the rule: the order's tests, one by one, as plain statements.
+-- What an OK says of its call before the rule: the order's tests, one by one, as plain statements. Laws, for every crate that has an OK in hand.
 use Prim.Native.Nat.{ℕ, _<_}
 use native.Mathlib.Omega.{arith}
 use mathlib.Core.Path.{_≡_, refl}
@@ -7,13 +7,14 @@ use mathlib.Core.Bool.{Bool, true, false, not, _&&_, true≢false, false≢true}
 use lib.Dec.{eqb, lit<}
 use borrow.Author.Tests.{leb-false, eqb-true, eqb-false, not-false}
 use Rattle.answer.specs.declared.Answer.{Answer}
+use Rattle.answer.specs.declared.Code.{Code}
+use Rattle.answer.specs.Answer.{numberOf}
 use Rattle.userspace.specs.Userspace.{THREADS}
 use Rattle.tables.specs.Table.{HANDLES}
 use Rattle.tables.specs.State.{State}
 use Rattle.decoding.specs.declared.Call.{Call}
 use Rattle.decoding.specs.Calls.{Op, opOf}
-use Rattle.judging.specs.Judge.{live, supervisor, typeOf, wellFormed, Use, noHandle, taken, free, useOf, withHandle, rule, isUnknown, isPrivileged, judgeOp, judge}
-use Rattle.call_laws.proofs.Cascade.{ok}
+use Rattle.judging.specs.Judge.{_⇒_⨾_, live, supervisor, typeOf, wellFormed, Use, noHandle, taken, free, useOf, withHandle, rule, isUnknown, isPrivileged, judgeOp, judge}
 
 -- field a is a handle that is below 256 and taken, or free, as the operation wants it
 pub record TakenAt (s : State) (h : ℕ) : Type 0 where
@@ -37,6 +38,18 @@ pub record PassedAs (o : Op) (s : State) (c : Call) : Type 0 where
 
 abbrev pub Passed : State → Call → Type 0
 Passed s c = PassedAs (opOf (c .op)) s c
+
+-- ---- one test
+
+-- an OK says that the test did not hold and that the rest is OK
+pub record Past (b : Bool) (x : Answer) : Type 0 where
+  pub test : b ≡ false
+  pub rest : x .code ≡ 0
+
+pub ok : (b : Bool) (n : Code) (rest : Answer) → 0 < numberOf n → (b ⇒ n ⨾ rest) .code ≡ 0 → Past b rest
+unfolding _⇒_⨾_
+ok true n rest p e = absurd (omega arith)
+ok false n rest p e = record { test = refl; rest = e }
 
 -- ---- the handle
 

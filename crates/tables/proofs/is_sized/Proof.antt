@@ -1,7 +1,7 @@
 use borrow.Author.Tests.{eq-eqb, ne-eqb}
-use Rattle.image.specs.Read.{sized}
-use Rattle.image.proofs.is_sized.Statement.{statement}
-use Rattle.image.proofs.is_sized.Tie as tie
+use Rattle.tables.specs.Table.{sized}
+use Rattle.tables.proofs.is_sized.Statement.{statement}
+use Rattle.tables.proofs.is_sized.Tie as tie
 
 -- src/lib.rt:242:9
 returns : tie.Need-returns
