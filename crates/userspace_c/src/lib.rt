@@ -77,7 +77,8 @@ pub extern "C" fn userspace_validate(
 ) -> u32
     ensures { λ r. ⌜ r ≡ validCode kind flags word expected tid supervisor mode ⌝ }
 {
-    userspace_decide::validated_number(object(kind, flags, word).validate(expected, tid, supervisor, check(mode)))
+    let v = object(kind, flags, word).validate(expected, tid, supervisor, check(mode));
+    userspace_decide::validated_number(v)
 }
 
 fn check(mode: i32) -> InitCheck
