@@ -1,28 +1,35 @@
 -- A log and its answers in words, for people: a line a part, with the words of its call and of its answer as `words` has them.
-use Prim.Native.Nat.{ℕ, _+_, _*_}
+use Prim.Native.Nat.{ℕ, _+_, _*_, _%_, _^_}
 use mathlib.Core.Bool.{cond}
 use mathlib.Core.List.{List, _++_}
-use lib.Dec.{eqb, ltb}
+use lib.Dec.{ltb}
 use lib.ListN.{length, getD}
 use Rattle.text.specs.Text.{ascii, decimal}
 use Rattle.decoding.specs.Calls.{callOf}
 use Rattle.words.specs.Words.{callWords, answerWords}
 use Rattle.calls.specs.Calls.{partAt}
 
--- the last part of a log can be under sixteen bytes; where there is no part at all, the answer is the image's
+-- the last part of a log can be under sixteen bytes
 unfoldable pub cutOff : ℕ → List ℕ
 cutOff n = ascii "cut off after " ++ decimal n ++ ascii " bytes"
 
 unfoldable pub partWords : List ℕ → List ℕ
-partWords bs = cond (eqb (length bs) 0) (ascii "image") (cond (ltb (length bs) 16) (cutOff (length bs)) (callWords (callOf bs)))
+partWords bs = cond (ltb (length bs) 16) (cutOff (length bs)) (callWords (callOf bs))
 
-unfoldable pub explained : List ℕ → ℕ → ℕ → List ℕ
-explained bs code value = partWords bs ++ answerWords code value
+unfoldable pub numeral : ℕ → List ℕ
+numeral number = decimal number ++ ascii ": "
 
--- the k-th part of a log with its answer, the two numbers from 2k on; past the log's end there is none
-abbrev pub explainedAt : List ℕ → List ℕ → ℕ → List ℕ
-explainedAt log out k = explained (partAt log k) (getD out (2 * k) 0) (getD out (2 * k + 1) 0)
+unfoldable pub explained : ℕ → List ℕ → ℕ → ℕ → List ℕ
+explained number bs code value = numeral number ++ partWords bs ++ answerWords code value
+
+-- the k-th line's number: 32 bits, so that it begins again at 0 behind the greatest
+abbrev pub numberAt : ℕ → ℕ → ℕ
+numberAt first k = (first + k) % 2 ^ 32
+
+-- the k-th part of a log with its answer, the two numbers from 2k on; past the log's end it is cut off after 0 bytes
+abbrev pub explainedAt : ℕ → List ℕ → List ℕ → ℕ → List ℕ
+explainedAt first log out k = explained (numberAt first k) (partAt log k) (getD out (2 * k) 0) (getD out (2 * k + 1) 0)
 
 -- the longest line
 abbrev pub LONGEST : ℕ
-LONGEST = 154
+LONGEST = 166

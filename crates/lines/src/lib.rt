@@ -9,7 +9,7 @@ ghost use Rattle.lines.specs.Lines.{line, lineAt, Lines};
 ghost use Rattle.lines.specs.Steps.{Piece};
 
 // Ten digits, a space, ten digits and the line's end.
-const LONGEST: usize = 22;
+pub const LONGEST: usize = 22;
 
 // What putting lines answers: the table's number, and how many bytes they have.
 pub struct Put {

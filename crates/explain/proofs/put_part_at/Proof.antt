@@ -17,7 +17,7 @@ same-length : tie.Need-same-length
 same-length c = search needs
 
 returns : tie.Need-returns
-returns c = known-as (past-end _ _ _ _ ((c .before .before .before .before .before .if1 .taken))) ((c .before .before .put-line .ensures))
+returns c = known-as (past-end _ _ _ _ _ ((c .before .before .before .before .before .if1 .taken))) ((c .before .before .put-line .ensures))
 
 sub-if2 : tie.Need-sub-if2
 sub-if2 c = search needs
@@ -38,7 +38,7 @@ same-length-2 : tie.Need-same-length-2
 same-length-2 c = search needs
 
 returns-2 : tie.Need-returns-2
-returns-2 c = known-as (cut-short _ _ _ _ ((c .before .before .before .before .before .before .if1 .left)) ((c .before .before .before .before .before .if2 .taken))) ((c .before .before .put-line2 .ensures))
+returns-2 c = known-as (cut-short _ _ _ _ _ ((c .before .before .before .before .before .before .if1 .left)) ((c .before .before .before .before .before .if2 .taken))) ((c .before .before .put-line2 .ensures))
 
 add-put-line : tie.Need-add-put-line
 add-put-line c = search needs
@@ -59,7 +59,7 @@ same-length-3 : tie.Need-same-length-3
 same-length-3 c = search needs
 
 returns-3 : tie.Need-returns-3
-returns-3 c = known-as (whole ((c .before .before .before .before .before .before .before .before .before .args .log) .now) ((c .before .before .before .before .before .before .before .before .before .args .k)) ((c .before .before .before .before .before .before .before .before .before .args .code)) ((c .before .before .before .before .before .before .before .before .before .args .value))) ((c .before .before .put-line3 .ensures))
+returns-3 c = known-as (whole _ ((c .before .before .before .before .before .before .before .before .before .args .log) .now) ((c .before .before .before .before .before .before .before .before .before .args .k)) ((c .before .before .before .before .before .before .before .before .before .args .code)) ((c .before .before .before .before .before .before .before .before .before .args .value))) ((c .before .before .put-line3 .ensures))
 
 pub put-part-at-spec : {M : Type 1} → statement M
 put-part-at-spec =

@@ -3,6 +3,7 @@ use Prim.Native.Nat.{ℕ, zero, suc, _+_, _*_, _≤_, _<_}
 use native.Mathlib.Decide.{decLt}
 use native.Mathlib.Omega.{arith}
 use mathlib.Core.Path.{_≡_, refl, _∙_}
+use mathlib.Core.Bool.{Bool, true, false}
 use mathlib.Core.List.{List}
 use lib.ListN.{length, set, getD, length-set}
 use lib.Seq.{getD-set-same, getD-set-other}
@@ -13,15 +14,15 @@ use Rattle.image_write.proofs.Bytes.{cat-same}
 use Rattle.calls.specs.Calls.{partAt, putAnswer, answersTo}
 use Rattle.calls.proofs.Laws.{put-length}
 use Rattle.lines.specs.Lines.{line, lineAt}
-use Rattle.explain.specs.Words.{explained, explainedAt}
-use Rattle.replay_laws.proofs.Pieces.{answerAt}
+use Rattle.explain.specs.Words.{explained, explainedAt, numberAt}
+use Rattle.replaying.specs.Printing.{answerAt, lineIn, lineOf, linesTo}
 
 -- the two numbers of an answer in their place
 record At (out : List ℕ) (k : ℕ) (a : Answer) : Type 0 where
   code : getD out (2 * k) 0 ≡ a .code
   value : getD out (2 * k + 1) 0 ≡ a .value
 
-answers-length : (s : State) (log out : List ℕ) (n : ℕ) → length (answersTo s log out n) ≡ length out
+pub answers-length : (s : State) (log out : List ℕ) (n : ℕ) → length (answersTo s log out n) ≡ length out
 unfolding answersTo
 answers-length s log out zero = refl
 answers-length s log out (suc n) = put-length (answersTo s log out n) n _ ∙ answers-length s log out n
@@ -61,6 +62,14 @@ pub printed : (s : State) (log out : List ℕ) (n : ℕ) → 2 * n ≤ length ou
 printed s log out n h = cat-same _ _ n (λ k l. let p = holds s log out n k h l in rw (p .code, p .value) refl)
 
 -- in words
-pub told : (s : State) (log out : List ℕ) (n : ℕ) → 2 * n ≤ length out
-    → cat (explainedAt log (answersTo s log out n)) n ≡ cat (λ k. explained (partAt log k) (answerAt s log k .code) (answerAt s log k .value)) n
-told s log out n h = cat-same _ _ n (λ k l. let p = holds s log out n k h l in rw (p .code, p .value) refl)
+pub told : (first : ℕ) (s : State) (log out : List ℕ) (n : ℕ) → 2 * n ≤ length out
+    → cat (explainedAt first log (answersTo s log out n)) n
+    ≡ cat (λ k. explained (numberAt first k) (partAt log k) (answerAt s log k .code) (answerAt s log k .value)) n
+told first s log out n h = cat-same _ _ n (λ k l. let p = holds s log out n k h l in rw (p .code, p .value) refl)
+
+-- whichever is asked for
+pub lines-are : (words : Bool) (first : ℕ) (s : State) (log out : List ℕ) (n : ℕ) → 2 * n ≤ length out
+    → cat (lineIn words first log (answersTo s log out n)) n ≡ linesTo words first s log n
+unfolding linesTo lineOf
+lines-are true first s log out n h = told first s log out n h
+lines-are false first s log out n h = printed s log out n h
