@@ -42,14 +42,7 @@ fn put_numeral(text: &mut [u8], at: usize, number: u32) -> usize
     p + text::put_word(text, p, b": ")
 }
 
-fn put_line(
-    text: &mut [u8],
-    at: usize,
-    number: u32,
-    bytes: &[u8],
-    code: u32,
-    value: u32,
-) -> usize
+fn put_line(text: &mut [u8], at: usize, number: u32, bytes: &[u8], code: u32, value: u32) -> usize
     requires { ⌜ at + 166 ≤ length (now text) ⌝ }
     ensures { λ r. ⌜ Piece (now (text .entry)) at 166 (explained number (now (bytes .entry)) code value) r (now (text .exit)) ⌝ }
 {

@@ -43,12 +43,12 @@ module _ (l : List ℕ) (from n i : ℕ) where
   keep-turn {log} h g e =
       let m : length (take i (drop from l)) ≡ i = length-take-le i (drop from l) (omega (arith, length-drop from l)) in
       let read : getD log (from + i) 0 ≡ getD (drop from l) i 0 =
-          ap (λ (x : List ℕ). getD x (from + i) 0) e
-          ∙ ap (λ (k : ℕ). getD (paste l 0 (drop from l) i) k 0) (add-comm from i ∙ ap (λ (k : ℕ). k + from) (sym m))
-          ∙ getD-append-add (take i (drop from l)) (drop (0 + i) l) from 0
-          ∙ getD-drop (0 + i) l from 0
-          ∙ ap (λ (k : ℕ). getD l k 0) (omega arith)
-          ∙ sym (getD-drop from l i 0)
+      ap (λ (x : List ℕ). getD x (from + i) 0) e
+      ∙ ap (λ (k : ℕ). getD (paste l 0 (drop from l) i) k 0) (add-comm from i ∙ ap (λ (k : ℕ). k + from) (sym m))
+      ∙ getD-append-add (take i (drop from l)) (drop (0 + i) l) from 0
+      ∙ getD-drop (0 + i) l from 0
+      ∙ ap (λ (k : ℕ). getD l k 0) (omega arith)
+      ∙ sym (getD-drop from l i 0)
       in
       rw (read, e, add-one)
       (ap (λ (k : ℕ). set (paste l 0 (drop from l) i) k (getD (drop from l) i 0)) (sym (zero-add i))

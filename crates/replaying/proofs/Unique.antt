@@ -3,21 +3,30 @@ use Prim.Native.Nat.{ℕ}
 use mathlib.Core.Path.{_≡_, sym, ap, _∙_}
 use mathlib.Core.Bool.{Bool}
 use mathlib.Core.List.{List}
-use lib.ListN.{length}
+use lib.ListN.{length, take}
 use denote.Ref.{now}
 use Rattle.lines.specs.declared.Put.{Put}
 use Rattle.replaying.specs.declared.Fed.{Fed}
 use Rattle.replaying.specs.Printing.{laid}
-use Rattle.replaying.specs.Feeding.{unanswered}
+use Rattle.replaying.specs.Feeding.{unanswered, FedIs}
 use Rattle.replaying.proofs.put_refusal.Reads as put-refusal
 use Rattle.replaying.proofs.feed.Reads as feed
 
 -- what is kept goes by the answer
-same-left : (last : Bool) (bs : List ℕ) {p q : Put} → p ≡ q → length (unanswered last bs p) ≡ length (unanswered last bs q)
-same-left last bs e = ap (λ (x : Put). length (unanswered last bs x)) e
+module _ {words last : Bool} {first : ℕ} {os ts ss log : List ℕ} {n : ℕ} {out text : List ℕ} {r₁ r₂ : Fed}
+    {os₁ ts₁ ss₁ log₁ out₁ text₁ os₂ ts₂ ss₂ log₂ out₂ text₂ : List ℕ}
+    (p : FedIs words last first os ts ss log n out text r₁ os₁ ts₁ ss₁ log₁ out₁ text₁)
+    (q : FedIs words last first os ts ss log n out text r₂ os₂ ts₂ ss₂ log₂ out₂ text₂) where
+  same-put : r₁ .put ≡ r₂ .put
+  same-put = p .printed .answer ∙ sym (q .printed .answer)
 
-same-kept : (last : Bool) (bs log : List ℕ) {p q : Put} → p ≡ q → laid (unanswered last bs p) log ≡ laid (unanswered last bs q) log
-same-kept last bs log e = ap (λ (x : Put). laid (unanswered last bs x) log) e
+  same-fed : r₁ ≡ r₂
+  same-fed =
+      let e : r₁ .left ≡ r₂ .left = p .left ∙ ap (λ (x : Put). length (unanswered last (take n log) x)) same-put ∙ sym (q .left) in
+      ap (λ (x : Put). record { put = x; left = r₁ .left }) same-put ∙ ap (λ (k : ℕ). record { put = r₂ .put; left = k }) e
+
+  same-kept : log₁ ≡ log₂
+  same-kept = p .kept ∙ ap (λ (x : Put). laid (unanswered last (take n log) x) log) same-put ∙ sym (q .kept)
 
 pub put-refusal-unique :
     (κs : _) (a : _) (r₁ r₂ : Put) (s₁ s₂ : _) → put-refusal.Post κs a r₁ s₁ → put-refusal.Post κs a r₂ s₂ → (r₁ ≡ r₂) × (now (s₁ .1 .1 .0) ≡ now (s₂ .1 .1 .0))
@@ -30,15 +39,12 @@ pub feed-unique :
     × (now (s₁ .1 .1 .1 .1 .1 .1 .1 .1 .1 .0) ≡ now (s₂ .1 .1 .1 .1 .1 .1 .1 .1 .1 .0))
 feed-unique κs a r₁ r₂ s₁ s₂ p q =
     let f = p .printed in
-    let g = q .printed in
-    let e : r₁ .put ≡ r₂ .put = f .answer ∙ sym (g .answer) in
-    (
-      ap (λ (x : Put). record { put = x; left = r₁ .left }) e
-      ∙ ap (λ (n : ℕ). record { put = r₂ .put; left = n }) (p .left ∙ same-left _ _ e ∙ sym (q .left)),
+    let g = q .printed in (
+      same-fed p q,
       f .objects ∙ sym (g .objects),
       f .threads ∙ sym (g .threads),
       f .slots ∙ sym (g .slots),
-      p .kept ∙ same-kept _ _ _ e ∙ sym (q .kept),
+      same-kept p q,
       f .numbers ∙ sym (g .numbers),
       f .text ∙ sym (g .text),
     )

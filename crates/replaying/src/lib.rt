@@ -51,14 +51,7 @@ fn has_room(n: usize, each: usize, room: usize) -> bool
 }
 
 // The lines of the first n answers.
-fn put_text(
-    first: u32,
-    log: &[u8],
-    out: &[u32],
-    n: usize,
-    words: bool,
-    text: &mut [u8],
-) -> Put
+fn put_text(first: u32, log: &[u8], out: &[u32], n: usize, words: bool, text: &mut [u8]) -> Put
     ensures { λ r. ⌜ Lines (lineIn words first (now (log .entry)) (now (out .entry))) (longest words) (now (out .entry)) n (now (text .entry)) r (now (text .exit)) ⌝ }
 {
     if words {
@@ -155,7 +148,16 @@ pub fn feed(
 {
     let have = least(n, log.len());
     let cut = cut_at(have, last);
-    let put = print(objects, threads, slots, first, &log[..cut], words, out, text);
+    let put = print(
+        objects,
+        threads,
+        slots,
+        first,
+        &log[..cut],
+        words,
+        out,
+        text,
+    );
     if put.code != OK {
         return Fed { put, left: have };
     }
