@@ -24,7 +24,8 @@ use Rattle.rules.proofs.Rules.{test-sound}
 use Rattle.calls.specs.declared.Ran.{Ran}
 use Rattle.calls.specs.Calls.{partsIn, ranTo, answersTo, runAnswer, ranParts, ranWith, Run}
 use Rattle.replaying.specs.Printing.{longest, lineIn, linesTo, refusalOf, laid, printAnswer, printedParts, Printed}
-use Rattle.replaying.proofs.Printed.{answers-length, lines-are}
+use Rattle.calls.proofs.Answers.{answers-length}
+use Rattle.replaying.proofs.Printed.{lines-are}
 
 or-true : (b : Bool) → (b || true) ≡ true
 or-true true = refl

@@ -1,60 +1,17 @@
 -- From the promises of `run` and of the lines to what is printed: the lines of the answers, in numbers and in words.
-use Prim.Native.Nat.{ℕ, zero, suc, _+_, _*_, _≤_, _<_}
-use native.Mathlib.Decide.{decLt}
-use native.Mathlib.Omega.{arith}
-use mathlib.Core.Path.{_≡_, refl, _∙_}
+use Prim.Native.Nat.{ℕ, _*_, _≤_}
+use mathlib.Core.Path.{_≡_, refl}
 use mathlib.Core.Bool.{Bool, true, false}
 use mathlib.Core.List.{List}
-use lib.ListN.{length, set, getD, length-set}
-use lib.Seq.{getD-set-same, getD-set-other}
-use Rattle.answer.specs.declared.Answer.{Answer}
+use lib.ListN.{length}
 use Rattle.answer.specs.Stores.{cat}
 use Rattle.tables.specs.State.{State}
 use Rattle.image_write.proofs.Bytes.{cat-same}
-use Rattle.calls.specs.Calls.{partAt, putAnswer, answersTo}
-use Rattle.calls.proofs.Laws.{put-length}
+use Rattle.calls.specs.Calls.{partAt, answersTo}
+use Rattle.calls.proofs.Answers.{holds}
 use Rattle.lines.specs.Lines.{line, lineAt}
 use Rattle.explain.specs.Words.{explained, explainedAt, numberAt}
 use Rattle.replaying.specs.Printing.{answerAt, lineIn, lineOf, linesTo}
-
--- the two numbers of an answer in their place
-record At (out : List ℕ) (k : ℕ) (a : Answer) : Type 0 where
-  code : getD out (2 * k) 0 ≡ a .code
-  value : getD out (2 * k + 1) 0 ≡ a .value
-
-pub answers-length : (s : State) (log out : List ℕ) (n : ℕ) → length (answersTo s log out n) ≡ length out
-unfolding answersTo
-answers-length s log out zero = refl
-answers-length s log out (suc n) = put-length (answersTo s log out n) n _ ∙ answers-length s log out n
-
-put-here : (out : List ℕ) (k : ℕ) (a : Answer) → 2 * k + 1 < length out → At (putAnswer out k a) k a
-unfolding putAnswer
-put-here out k a h =
-    let m : length (set out (2 * k) (a .code)) ≡ length out = length-set out (2 * k) (a .code) in
-    record {
-      code = getD-set-other (set out (2 * k) (a .code)) (2 * k + 1) (2 * k) (a .value) 0 (λ e. omega arith) ∙ getD-set-same out (2 * k) (a .code) 0 (omega arith);
-      value = getD-set-same (set out (2 * k) (a .code)) (2 * k + 1) (a .value) 0 (omega (arith, m));
-    }
-
-put-there : (out : List ℕ) (k j : ℕ) (a b : Answer) → j < k → At out j b → At (putAnswer out k a) j b
-unfolding putAnswer
-put-there out k j a b h p =
-    let o : List ℕ = set out (2 * k) (a .code) in
-    record {
-      code = getD-set-other o (2 * k + 1) (2 * j) (a .value) 0 (λ e. omega arith) ∙ getD-set-other out (2 * k) (2 * j) (a .code) 0 (λ e. omega arith) ∙ p .code;
-      value = getD-set-other o (2 * k + 1) (2 * j + 1) (a .value) 0 (λ e. omega arith) ∙ getD-set-other out (2 * k) (2 * j + 1) (a .code) 0 (λ e. omega arith) ∙ p .value;
-    }
-
--- after n parts the buffer holds the answer to each of them
-holds : (s : State) (log out : List ℕ) (n k : ℕ) → 2 * n ≤ length out → k < n → At (answersTo s log out n) k (answerAt s log k)
-unfolding answersTo
-holds s log out zero k h l = absurd (omega arith)
-holds s log out (suc n) k h l =
-    let m = answers-length s log out n in
-    elim (decLt k n) [
-      | yes b ↦ put-there (answersTo s log out n) n k _ _ b (holds s log out n k (omega arith) b)
-      | no b ↦ let e : k ≡ n = omega arith in rw e (put-here (answersTo s log out n) n _ (omega (arith, m)))
-    ]
 
 -- in numbers: what `put_lines` puts of the buffer that `run` left
 pub printed : (s : State) (log out : List ℕ) (n : ℕ) → 2 * n ≤ length out
