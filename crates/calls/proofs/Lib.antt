@@ -3,3 +3,4 @@ pub mod Unique
 pub mod Refused
 pub mod Given
 pub mod Answers
+pub mod Left

@@ -23,47 +23,19 @@ use Rattle.calls.specs.declared.Ran.{Ran}
 use Rattle.calls.specs.Calls.{partAt, partsIn, ranTo, answersTo, ranParts, Run}
 use Rattle.calls.specs.Steps.{Ranged}
 use Rattle.calls.proofs.Refused.{run-untouched, Finished, run-finished}
+use Rattle.calls.proofs.Left.{run-left}
 use Rattle.calls.proofs.Answers.{holds}
 use Rattle.isolation.specs.View.{bitAt, Agree}
 use Rattle.isolation.specs.Trace.{run, Unprivileged, trace, answers, GainBy}
 use Rattle.isolation.proofs.Gain.{gain-call}
 use Rattle.isolation.proofs.Runs.{noninterference}
-use Rattle.isolation_cases.proofs.Tables.{Left, some, some-left, callsTo, whole-part, log-runs, log-ends}
+use Rattle.isolation_cases.proofs.Tables.{callsTo, whole-part, log-runs, log-ends}
 
 -- ---- the tables that `run` leaves
-
--- tables that keep the rules and stand for a state
-data Tables (s : State) : Type 0 where
-  those : {os ts ss : List ℕ} → Sound os ts ss → stateOf os ts ss ≡ s → Tables s
-
--- there are such tables after every part
-next : {s : State} (bs : List ℕ) → Tables s → Tables (left s bs)
-next {s} bs (those {os} {ts} {ss} z e) = go (some-left z bs)
-  where
-    go : Left (stateOf os ts ss) bs → Tables (left s bs)
-    go (some w) = those (w .sound) (w .state ∙ ap (λ (x : State). left x bs) e)
-
-some-ran : {os ts ss : List ℕ} → Sound os ts ss → (log : List ℕ) (n : ℕ) → Tables (ranTo (stateOf os ts ss) log n)
-unfolding ranTo
-some-ran z log zero = those z refl
-some-ran z log (suc n) = next (partAt log n) (some-ran z log n)
-
--- and the promise fixes them: they keep the rules again, and stand for the state after the parts that were heard
 module _ {os ts ss log out os′ ts′ ss′ out′ : List ℕ} {r : Ran} (d : Run os ts ss log out r os′ ts′ ss′ out′) where
-  pub run-left : Sound os ts ss → Ranged (stateOf os ts ss) log out (ranParts os ts ss log out) os′ ts′ ss′ out′
-  run-left sound = go (some-ran sound log (ranParts os ts ss log out))
-    where
-      go : Tables (ranTo (stateOf os ts ss) log (ranParts os ts ss log out)) → Ranged (stateOf os ts ss) log out (ranParts os ts ss log out) os′ ts′ ss′ out′
-      go (those {os = os″} {ts = ts″} {ss = ss″} z e) =
-          let k = sound-test os ts ss sound in
-          let eo : os′ ≡ os″ = (rw k at (d .objects)) ∙ ap (λ (x : State). flatObjects (x .objects)) (sym e) ∙ objects-back (z .fit) in
-          let et : ts′ ≡ ts″ = (rw k at (d .threads)) ∙ ap (λ (x : State). flatThreads (x .threads)) (sym e) ∙ threads-back (z .fit) in
-          let es : ss′ ≡ ss″ = (rw k at (d .slots)) ∙ ap (λ (x : State). flatDomains (x .domains)) (sym e) ∙ domains-back (z .fit) in
-          record { state = rw (eo, et, es) e; sound = rw (eo, et, es) z; buffer = d .buffer }
-
   -- after an OK every part was heard
   all-left : (f : Finished os ts ss log out) → stateOf os′ ts′ ss′ ≡ ranTo (stateOf os ts ss) log (partsIn (length log))
-  all-left f = run-left (f .sound) .state ∙ ap (ranTo (stateOf os ts ss) log) (f .parts)
+  all-left f = run-left d (f .sound) .state ∙ ap (ranTo (stateOf os ts ss) log) (f .parts)
 
   all-told : (f : Finished os ts ss log out) → out′ ≡ answersTo (stateOf os ts ss) log out (partsIn (length log))
   all-told f = d .buffer ∙ ap (answersTo (stateOf os ts ss) log out) (f .parts)

@@ -11,15 +11,13 @@ use lib.ListN.{length, length-take, length-drop}
 use Rattle.answer.specs.declared.Answer.{Answer}
 use Rattle.tables.specs.State.{State, stateOf}
 use Rattle.rules.specs.Rules.{Sound}
-use Rattle.rules.proofs.Rules.{sound-test}
 use Rattle.decoding.specs.declared.Call.{Call}
 use Rattle.decoding.specs.Calls.{grant, exit, opOf, callOf}
 use Rattle.judging.specs.Judge.{supervisor, judgeIn, heard}
 use Rattle.judging.specs.Change.{after, left}
 use Rattle.call_laws.proofs.Order.{left-other, left-whole}
 use Rattle.calls.specs.Calls.{Called, partAt, ranTo}
-use Rattle.calls.specs.Steps.{Stepped}
-use Rattle.calls.proofs.Laws.{step-refused, step-done, hear-short, hear-long, hear-whole, call-heard}
+use Rattle.calls.proofs.Left.{state-left}
 use Rattle.calls.proofs.Refused.{Untouched, refused-untouched, Accepted, call-accepted}
 use Rattle.isolation.specs.View.{bitAt, Agree, GivenOf, GoneOf}
 use Rattle.isolation.specs.Trace.{run, GainBy}
@@ -27,32 +25,6 @@ use Rattle.isolation.proofs.Views.{agree-refl}
 use Rattle.isolation.proofs.Own.{Alike, own-bytes}
 use Rattle.isolation.proofs.Others.{others-call, others-grant, others-exit}
 use Rattle.isolation.proofs.Gain.{gain-call}
-
--- ---- the tables that `call` leaves
-
--- the tables that a call of tables that keep the rules leaves stand for the state after it
-pub data Left (s : State) (bs : List ℕ) : Type 0 where
-  some : {r : Answer} {os ts ss : List ℕ} → Stepped (heard s bs) (left s bs) r os ts ss → Left s bs
-
-module _ {os ts ss : List ℕ} (sound : Sound os ts ss) (bs : List ℕ) where
-  -- there are such tables
-  pub some-left : Left (stateOf os ts ss) bs
-  some-left = go (ℕ-discrete (length bs) 16) (decLt (length bs) 16) (ℕ-discrete (judgeIn os ts ss (callOf bs) .code) 0)
-    where
-      go : Dec (length bs ≡ 16) → Dec (length bs < 16) → Dec (judgeIn os ts ss (callOf bs) .code ≡ 0) → Left (stateOf os ts ss) bs
-      go (yes e) d (yes z) = some (hear-whole (stateOf os ts ss) bs e refl (step-done sound (callOf bs) (judgeIn os ts ss (callOf bs)) refl z refl refl refl))
-      go (yes e) d (no n) = some (hear-whole (stateOf os ts ss) bs e refl (step-refused sound (callOf bs) (judgeIn os ts ss (callOf bs)) refl n))
-      go (no n) (yes h) d = some (hear-short sound bs h)
-      go (no n) (no f) d = some (hear-long sound bs (omega arith))
-
-  -- and the promise fixes them
-  pub state-left : {r : Answer} {os′ ts′ ss′ : List ℕ} → Called os ts ss bs r os′ ts′ ss′ → Stepped (heard (stateOf os ts ss) bs) (left (stateOf os ts ss) bs) r os′ ts′ ss′
-  state-left {r} {os′} {ts′} {ss′} d = go some-left
-    where
-      go : Left (stateOf os ts ss) bs → Stepped (heard (stateOf os ts ss) bs) (left (stateOf os ts ss) bs) r os′ ts′ ss′
-      go (some w) =
-          let k = call-heard os ts ss bs (sound-test os ts ss sound) w in
-          rw (d .answer ∙ sym (k .answer), d .objects ∙ sym (k .objects), d .threads ∙ sym (k .threads), d .slots ∙ sym (k .slots)) w
 
 -- ---- a thread's own call
 
