@@ -11,6 +11,8 @@ ghost use Rattle.mem_check.specs.Windows.{runIn, Run, Ahead};
 use answer::Answer;
 use tables::SLOTS;
 
+const WIDE_SLOTS: u64 = SLOTS as u64;
+
 // The highest end of a range: the last address itself lies in none.
 const LAST: u64 = 4294967295;
 
@@ -90,12 +92,12 @@ fn covered(slots: &[u32], d: u32, from: u32, len: u32, write: bool) -> u32
     done
 }
 
-// A domain that the table does not hold whole covers nothing.
+// A domain that the table does not hold whole covers nothing. The test is worked in 64 bits: behind it no place of the domain can wrap.
 fn covered_in(slots: &[u32], d: u32, from: u32, len: u32, write: bool) -> u32
     requires { ⌜ from + len ≤ 4294967295 ⌝ }
     ensures { λ r. ⌜ r ≡ coveredRun (slotsIn (now (slots .entry)) d) write from len ⌝ }
 {
-    if slots.len() < 3 * (SLOTS * (d as usize) + SLOTS) {
+    if (slots.len() as u64) < 3 * (WIDE_SLOTS * (d as u64) + WIDE_SLOTS) {
         return 0;
     }
     covered(slots, d, from, len, write)

@@ -18,6 +18,8 @@ pub const DOMAINS: u32 = 8;
 
 pub const SLOTS: usize = mem_domain::MAX_PARTITIONS as usize;
 
+const WIDE_SLOTS: u64 = mem_domain::MAX_PARTITIONS as u64;
+
 // How many numbers each table has.
 pub const OBJECT_NUMBERS: usize = 2 * (HANDLES as usize);
 
@@ -45,24 +47,30 @@ pub fn is_sized(objects: usize, threads: usize, slots: usize) -> bool
     slots == SLOT_NUMBERS
 }
 
-fn at32(xs: &[u32], i: usize) -> u32
+// Places are worked in 64 bits and become an index once they are known to lie in the table, so that no product can wrap where `usize` is narrower.
+fn at32(xs: &[u32], i: u64) -> u32
     ensures { λ r. ⌜ r ≡ getD (now (xs .entry)) i 0 ⌝ }
 {
-    if i < xs.len() { xs[i] } else { 0 }
+    if i < xs.len() as u64 {
+        let k = i as usize;
+        return xs[k];
+    }
+    0
 }
 
-fn put32(xs: &mut [u32], i: usize, v: u32)
+fn put32(xs: &mut [u32], i: u64, v: u32)
     ensures { λ _. ⌜ now (xs .exit) ≡ set (now (xs .entry)) i v ⌝ }
 {
-    if i < xs.len() {
-        xs[i] = v;
+    if i < xs.len() as u64 {
+        let k = i as usize;
+        xs[k] = v;
     }
 }
 
 pub fn load_thread(threads: &[u32], t: u32) -> Thread
     ensures { λ r. ⌜ r ≡ threadAt (now (threads .entry)) t ⌝ }
 {
-    let i = 3 * (t as usize);
+    let i = 3 * (t as u64);
     Thread {
         role: at32(threads, i),
         domain: at32(threads, i + 1),
@@ -73,14 +81,14 @@ pub fn load_thread(threads: &[u32], t: u32) -> Thread
 pub fn store_thread(threads: &mut [u32], t: u32, r: Thread)
     ensures { λ _. ⌜ now (threads .exit) ≡ putThread (now (threads .entry)) t r ⌝ }
 {
-    let i = 3 * (t as usize);
+    let i = 3 * (t as u64);
     put32(threads, i, r.role);
     put32(threads, i + 1, r.domain);
     put32(threads, i + 2, r.handle);
 }
 
 // Partition number 16 d + k is slot k of domain d.
-fn load_partition(slots: &[u32], n: usize) -> MemPartition
+fn load_partition(slots: &[u32], n: u64) -> MemPartition
     requires { ⌜ n < 2 ^ 40 ⌝ }
     ensures { λ r. ⌜ r ≡ partitionAt (now (slots .entry)) n ⌝ }
 {
@@ -92,7 +100,7 @@ fn load_partition(slots: &[u32], n: usize) -> MemPartition
     }
 }
 
-fn store_partition(slots: &mut [u32], n: usize, p: MemPartition)
+fn store_partition(slots: &mut [u32], n: u64, p: MemPartition)
     requires { ⌜ n < 2 ^ 40 ⌝ }
     ensures { λ _. ⌜ now (slots .exit) ≡ putPartition (now (slots .entry)) n p ⌝ }
 {
@@ -112,14 +120,14 @@ pub fn load_slot(slots: &[u32], d: u32, k: u32) -> MemPartition
             attr: 0,
         };
     }
-    load_partition(slots, SLOTS * (d as usize) + k as usize)
+    load_partition(slots, WIDE_SLOTS * (d as u64) + k as u64)
 }
 
 pub fn store_slot(slots: &mut [u32], d: u32, k: u32, p: MemPartition)
     ensures { λ _. ⌜ now (slots .exit) ≡ putSlot (now (slots .entry)) d k p ⌝ }
 {
     if k < mem_domain::MAX_PARTITIONS {
-        store_partition(slots, SLOTS * (d as usize) + k as usize, p);
+        store_partition(slots, WIDE_SLOTS * (d as u64) + k as u64, p);
     }
 }
 
@@ -131,11 +139,11 @@ fn partitions_at(slots: &[u32], d: u32) -> [MemPartition; SLOTS]
         size: 0,
         attr: 0,
     };
-    let first = SLOTS * (d as usize);
+    let first = WIDE_SLOTS * (d as u64);
     let mut parts = [empty; SLOTS];
     let mut k = 0;
     while k < SLOTS {
-        parts[k] = load_partition(slots, first + k);
+        parts[k] = load_partition(slots, first + k as u64);
         k += 1;
     }
     parts
@@ -155,11 +163,11 @@ pub fn load_domain(slots: &[u32], d: u32) -> MemDomain
 pub fn store_domain(slots: &mut [u32], d: u32, m: MemDomain)
     ensures { λ _. ⌜ now (slots .exit) ≡ putDomain (now (slots .entry)) d m ⌝ }
 {
-    let base = SLOTS * (d as usize);
+    let base = WIDE_SLOTS * (d as u64);
     let mut k = 0;
     while k < SLOTS {
         let p = m.partitions[k];
-        store_partition(slots, base + k, p);
+        store_partition(slots, base + k as u64, p);
         k += 1;
     }
 }

@@ -23,12 +23,12 @@ at64-requires-2 : tie.Need-at64-requires-2
 at64-requires-2 c κs = search needs
 
 -- src/lib.rt:61:19
-cast-t8 : tie.Need-cast-t8
-cast-t8 c = search needs
+cast-t7 : tie.Need-cast-t7
+cast-t7 c = search needs
 
 -- src/lib.rt:62:16
-cast-t11 : tie.Need-cast-t11
-cast-t11 c = search needs
+cast-t10 : tie.Need-cast-t10
+cast-t10 c = search needs
 
 -- src/lib.rt:54:1
 returns : tie.Need-returns
@@ -37,4 +37,4 @@ returns c = simp ((c .at642 .ensures), (c .before .at64 .ensures))
 
 pub load-object-spec : {M : Type 1} → statement M
 load-object-spec =
-    tie.close (tie.spec mul-i at64-requires add-at64 at64-requires-2 cast-t8 cast-t11 returns)
+    tie.close (tie.spec mul-i at64-requires add-at64 at64-requires-2 cast-t7 cast-t10 returns)
