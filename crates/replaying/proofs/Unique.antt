@@ -7,8 +7,9 @@ use lib.ListN.{length, take}
 use denote.Ref.{now}
 use Rattle.lines.specs.declared.Put.{Put}
 use Rattle.replaying.specs.declared.Fed.{Fed}
+use Rattle.explain.specs.Words.{numberAt}
 use Rattle.replaying.specs.Printing.{laid}
-use Rattle.replaying.specs.Feeding.{unanswered, FedIs}
+use Rattle.replaying.specs.Feeding.{unanswered, calls, FedIs}
 use Rattle.replaying.proofs.put_refusal.Reads as put-refusal
 use Rattle.replaying.proofs.feed.Reads as feed
 
@@ -23,7 +24,10 @@ module _ {words last : Bool} {first : ℕ} {os ts ss log : List ℕ} {n : ℕ} {
   same-fed : r₁ ≡ r₂
   same-fed =
       let e : r₁ .left ≡ r₂ .left = p .left ∙ ap (λ (x : Put). length (unanswered last (take n log) x)) same-put ∙ sym (q .left) in
-      ap (λ (x : Put). record { put = x; left = r₁ .left }) same-put ∙ ap (λ (k : ℕ). record { put = r₂ .put; left = k }) e
+      let f : r₁ .next ≡ r₂ .next = p .next ∙ ap (λ (x : Put). numberAt first (calls last (take n log) x)) same-put ∙ sym (q .next) in
+      ap (λ (x : Put). record { put = x; left = r₁ .left; next = r₁ .next }) same-put
+      ∙ ap (λ (k : ℕ). record { put = r₂ .put; left = k; next = r₁ .next }) e
+      ∙ ap (λ (k : ℕ). record { put = r₂ .put; left = r₂ .left; next = k }) f
 
   same-kept : log₁ ≡ log₂
   same-kept = p .kept ∙ ap (λ (x : Put). laid (unanswered last (take n log) x) log) same-put ∙ sym (q .kept)

@@ -9,6 +9,7 @@ use lib.ListN.{length, take, drop}
 use Rattle.answer.specs.declared.Code.the-variants.{Ok}
 use Rattle.answer.specs.Answer.{numberOf}
 use Rattle.lines.specs.declared.Put.{Put}
+use Rattle.explain.specs.Words.{numberAt}
 use Rattle.replaying.specs.declared.Fed.{Fed}
 use Rattle.replaying.specs.Printing.{laid, Printed}
 
@@ -27,8 +28,13 @@ rest last bs = drop (cutAt last (length bs)) bs
 abbrev pub unanswered : Bool → List ℕ → Put → List ℕ
 unanswered last bs p = cond (eqb (p .code) (numberOf Ok)) (rest last bs) bs
 
--- of a buffer the first n bytes are there
+-- how many whole calls are answered
+abbrev pub calls : Bool → List ℕ → Put → ℕ
+calls last bs p = cond (eqb (p .code) (numberOf Ok)) (cutAt last (length bs) / 16) 0
+
+-- of a buffer the first n bytes are there; `first` is the number of the call that they begin with
 pub record FedIs (words last : Bool) (first : ℕ) (os ts ss log : List ℕ) (n : ℕ) (out text : List ℕ) (r : Fed) (os′ ts′ ss′ log′ out′ text′ : List ℕ) : Type 0 where
   pub printed : Printed words first os ts ss (ripe last (take n log)) out text (r .put) os′ ts′ ss′ out′ text′
   pub left : r .left ≡ length (unanswered last (take n log) (r .put))
+  pub next : r .next ≡ numberAt first (calls last (take n log) (r .put))
   pub kept : log′ ≡ laid (unanswered last (take n log) (r .put)) log

@@ -10,6 +10,7 @@ ghost use lib.Dec.{leb};
 ghost use lib.ListN.{length, take, drop};
 ghost use Rattle.lines.specs.Lines.{Lines};
 ghost use Rattle.calls.specs.Calls.{partsIn};
+ghost use Rattle.explain.specs.Words.{numberAt};
 ghost use Rattle.rules.specs.Rules.{keepsTest};
 ghost use Rattle.replaying.specs.Printing.{longest, lineIn, refusalOf, laid, Printed};
 ghost use Rattle.replaying.specs.Feeding.{cutAt, FedIs};
@@ -24,10 +25,14 @@ const CALL: usize = 16;
 // Room for the line of a refused image.
 pub const REFUSAL: usize = 30;
 
-// What feeding answers: the table's number with the text's bytes, and how many bytes of the log are kept.
+// How many numbers a call can have before they begin again.
+const NUMBERS: usize = 4294967296;
+
+// What feeding answers: the table's number with the text's bytes, how many bytes of the log are kept, and the next call's number.
 pub struct Fed {
     pub put: Put,
     pub left: usize,
+    pub next: u32,
 }
 
 fn longest_line(words: bool) -> usize
@@ -132,6 +137,14 @@ fn least(a: usize, b: usize) -> usize
     b
 }
 
+// The number of the call behind n others.
+fn number_after(first: u32, n: usize) -> u32
+    ensures { λ r. ⌜ r ≡ numberAt first n ⌝ }
+{
+    let more = (n % NUMBERS) as u32;
+    std::num::wrapping_add_u32(first, more)
+}
+
 pub fn feed(
     objects: &mut [u64],
     threads: &mut [u32],
@@ -159,12 +172,17 @@ pub fn feed(
         text,
     );
     if put.code != OK {
-        return Fed { put, left: have };
+        return Fed {
+            put,
+            left: have,
+            next: first,
+        };
     }
     keep(log, cut, have);
     Fed {
         put,
         left: have - cut,
+        next: number_after(first, cut / CALL),
     }
 }
 
