@@ -352,6 +352,12 @@ fn turn(
     }
 }
 
+fn no_end() -> u32
+    ensures { λ r. ⌜ r ≡ 2 ⌝ }
+{
+    complain(b"replay: standard input does not end\n")
+}
+
 // A proved loop has to end, and nothing says that the input does: the turns are counted down from a number that no run uses up.
 fn every(
     objects: &mut [u64],
@@ -378,7 +384,7 @@ fn every(
         }
         turns -= 1;
     }
-    complain(b"replay: standard input does not end\n")
+    no_end()
 }
 
 fn in_numbers(objects: &mut [u64], threads: &mut [u32], slots: &mut [u32]) -> u32
