@@ -1,5 +1,5 @@
 // Judging a call: document 01's answer to it in a state. Nothing is changed here.
-// Promised, for any tables and any call: the answer of the order in specs/Judge.antt; VALUE for tables of other lengths than a state's.
+// Promised, for any tables and any call: the answer of the order in judging/specs/Judge.antt; VALUE for tables of other lengths than a state's.
 // Calls that are open to all come first and are judged by one function each: they are what a pump does all day.
 ghost use mathlib.Core.Path.{_≡_};
 ghost use mathlib.Core.Bool.{true, _&&_, _||_, not};
@@ -581,7 +581,7 @@ fn judge_sized(objects: &[u64], threads: &[u32], slots: &[u32], c: Call) -> Answ
     supervisor_call(&objects[..], &threads[..], &slots[..], c)
 }
 
-// The answer to a call: of tables with any content and any lengths. Whether the state keeps the rules is not asked here: the caller asks it once.
+// The answer to a call: of tables with any content and any lengths. Whether the state keeps the rules is not asked here: `call` and `run` have asked it.
 pub fn judge(objects: &[u64], threads: &[u32], slots: &[u32], c: Call) -> Answer
     ensures { λ r. ⌜ r ≡ judgeIn (now (objects .entry)) (now (threads .entry)) (now (slots .entry)) c ⌝ }
 {

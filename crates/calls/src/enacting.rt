@@ -1,7 +1,7 @@
-// What a call changes once it was answered OK: each of the three tables by itself. Whether it was, is for others to see (crate judging): here nothing is
-// judged, and any call on any tables changes exactly what specs/Apply.antt says; behind a table's end nothing is stored.
+// What a call changes once it was answered OK: each of the three tables by itself. Whether it was, `step` in lib.rt has seen: here nothing is
+// judged, and any call on any tables changes exactly what applying/specs/Apply.antt says; behind a table's end nothing is stored.
 // Promised: each table after is `enact..` of the call's change (judging/specs/Change.antt). On a state's tables that is the state after
-// (proofs/Picture.antt: `applied`, `fit-after`). The code here is that of threads and domains; that of objects is the crate applying_objects.
+// (applying/proofs/Picture.antt: `applied`, `fit-after`). The code here is that of threads and domains; that of objects is enacting_objects.rt.
 ghost use mathlib.Core.Path.{_≡_};
 ghost use mathlib.Core.Bool.{cond};
 ghost use lib.Dec.{eqb};

@@ -1,12 +1,14 @@
-// What a call changes in the object table once it was answered OK. As in applying, nothing is judged here: any call on any table changes exactly what
+// What a call changes in the object table once it was answered OK. As in enacting.rt, nothing is judged here: any call on any table changes exactly what
 // applying/specs/Apply.antt says, and behind the table's end nothing is stored. Promised: the table after is `enactObjects` of the call's change.
 ghost use mathlib.Core.Path.{_≡_};
 ghost use mathlib.Core.Logic.{_≢_};
+ghost use mathlib.Core.Bool.{cond};
+ghost use lib.Dec.{eqb};
 ghost use Rattle.userspace.specs.Userspace.{granted, revoked, recycled};
 ghost use Rattle.tables.specs.Table.{HANDLES as HANDLES·spec, objectAt, putObject};
 ghost use Rattle.decoding.specs.Calls.{opOf};
 ghost use Rattle.judging.specs.Change.{inherited, objectChange};
-ghost use Rattle.applying.specs.Apply.{eachTo, enactObjects, objectAfter, objectScope};
+ghost use Rattle.applying.specs.Apply.{eachTo, enactObjects, objectAfter, wholeAfter, flagsAfter, objectScope};
 use decoding::Call;
 use tables::HANDLES;
 use userspace::KernelObject;
@@ -49,6 +51,55 @@ fn with_heritage(o: KernelObject, parent: u32, child: u32) -> KernelObject
     o
 }
 
+// Whose bit release and revoke clear: the caller's own, and that of the thread in b.
+fn loser(c: Call) -> u32
+    ensures { λ r. ⌜ r ≡ cond (eqb (c .op) 2) (c .caller) (c .b) ⌝ }
+{
+    let op = c.op;
+    match op {
+        2 => c.caller,
+        _ => c.b,
+    }
+}
+
+// Who ends by end and by exit: the thread in b, and the caller.
+fn ended(c: Call) -> u32
+    ensures { λ r. ⌜ r ≡ cond (eqb (c .op) 24) (c .b) (c .caller) ⌝ }
+{
+    if c.op == 24 {
+        return c.b;
+    }
+    c.caller
+}
+
+// Create and delete leave nothing of what was there.
+fn whole_after(c: Call, o: KernelObject) -> KernelObject
+    ensures { λ r. ⌜ r ≡ wholeAfter c o ⌝ }
+{
+    let op = c.op;
+    match op {
+        16 => KernelObject::new((c.b % 256) as u8),
+        17 => KernelObject {
+            obj_type: 0,
+            flags: 0,
+            word: 0,
+        },
+        _ => o,
+    }
+}
+
+fn flags_after(c: Call, o: KernelObject) -> KernelObject
+    ensures { λ r. ⌜ r ≡ flagsAfter c o ⌝ }
+{
+    let op = c.op;
+    match op {
+        19 => o.init_object(),
+        20 => o.uninit_object(),
+        22 => o.make_public(),
+        _ => o,
+    }
+}
+
 // What a call makes of an object that it reaches, by its number alone. Grant has a way of its own.
 fn object_after(c: Call, o: KernelObject) -> KernelObject
     requires { ⌜ c .op ≢ 1 ⌝ }
@@ -56,20 +107,14 @@ fn object_after(c: Call, o: KernelObject) -> KernelObject
 {
     let op = c.op;
     match op {
-        2 => without_bit(o, c.caller),
-        4 => without_bit(o, c.caller),
-        16 => KernelObject::new((c.b % 256) as u8),
-        17 => KernelObject {
-            obj_type: 0,
-            flags: 0,
-            word: 0,
-        },
-        18 => without_bit(o, c.b),
-        19 => o.init_object(),
-        20 => o.uninit_object(),
+        2 | 18 => without_bit(o, loser(c)),
+        4 | 24 => without_bit(o, ended(c)),
+        16 => whole_after(c, o),
+        17 => whole_after(c, o),
+        19 => flags_after(c, o),
+        20 => flags_after(c, o),
         21 => recycled_for(o, c.caller),
-        22 => o.make_public(),
-        24 => without_bit(o, c.b),
+        22 => flags_after(c, o),
         25 => with_heritage(o, c.b, c.c),
         _ => o,
     }

@@ -1,6 +1,6 @@
 // The latch: one call, or a log of them, on three lent tables. Whatever the tables, the bytes and the log are, there is an answer of document 01's table.
-// `call` and `run` are all that another crate can call: what judges a call and what applies it are modules inside, and no way leads to them that has not judged
-// the state.
+// `call` and `run` are all that another crate can call: what judges a call and what applies it are private modules, and `call` and `run` come to them only
+// once the state was found to keep the rules.
 // Promised: `call` answers and leaves what judging/specs says; `run` is the fold of it, with the state judged once; a refusal changes nothing.
 // Inside, a step has the rules as what it requires and as what it ensures again, so no call of a log can meet a state that breaks one.
 ghost use mathlib.Core.Path.{_≡_};
@@ -16,9 +16,7 @@ use answer::Answer;
 use decoding::Call;
 
 mod deciding;
-
 mod enacting;
-
 mod enacting_objects;
 
 // How many bytes a call has.
