@@ -100,7 +100,7 @@ fn flags_after(c: Call, o: KernelObject) -> KernelObject
     }
 }
 
-// What a call makes of an object that it reaches, by its number alone. Grant has a way of its own.
+// What a call makes of an object that it reaches, by its number alone. Grant has a way of its own. Neighbours joined would be a range, dearer to prove.
 fn object_after(c: Call, o: KernelObject) -> KernelObject
     requires { ⌜ c .op ≢ 1 ⌝ }
     ensures { λ r. ⌜ r ≡ objectAfter c o ⌝ }
