@@ -2,4 +2,3 @@ pub mod Ops
 pub mod Tables
 pub mod Picture
 pub mod InRange
-pub mod Unique

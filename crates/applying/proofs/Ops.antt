@@ -5,16 +5,17 @@ use native.Mathlib.Omega.{arith}
 use mathlib.Core.Path.{_≡_, refl, sym, ap, _∙_}
 use mathlib.Core.Bool.{Bool, true, false, cond, _&&_}
 use mathlib.Core.List.{List}
+use mathlib.Core.Logic.{_⊎_, inl, inr}
 use lib.Dec.{eqb, ltb}
 use borrow.Author.Tests.{eqb-true, eq-eqb, ne-eqb}
 use Rattle.answer.specs.declared.Answer.{Answer}
 use Rattle.userspace.specs.declared.KernelObject.{KernelObject}
 use Rattle.bits.specs.Bit.{bitOf, isSet}
-use Rattle.userspace.specs.Userspace.{THREADS, holds, granted, bitAnswer}
+use Rattle.userspace.specs.Userspace.{THREADS, holds, granted, revoked, bitAnswer}
 use Rattle.decoding.specs.declared.Call.{Call}
 use Rattle.decoding.specs.Calls.{create, delete, revoke, init, uninit, recycle, publish, thread, end, inherit, assign, add, remove, Op, validate, grant, release, check, exit, sup, unknown, opOf}
 use Rattle.judging.specs.Change.{Change, none, one, each, objectChange, threadChange, domainChange, inherited}
-use Rattle.applying.specs.Apply.{eachTo, enactIn, rewritten, scopeOf}
+use Rattle.applying.specs.Apply.{eachTo, enactIn, rewritten, objectAfter, wholeAfter, flagsAfter, scopeOf}
 
 -- ---- what holds of each operation that the number may name holds of the one that it names
 split : (n k : ℕ) (P : Op → Type 0) (o rest : Op) → (n ≡ k → P o) → P rest → P (cond (eqb n k) o rest)
@@ -149,3 +150,26 @@ module _ (o : KernelObject) (parent child : ℕ) (held : Answer) (e : held ≡ b
   pub no-heir : (held .value ≡ 1 → ⊥) → o ≡ inherited parent child o
   unfolding inherited
   no-heir h = let q : holds o parent ≡ false = sym (held-is o parent) ∙ ap (λ r. eqb (r .value) 1) (sym e) ∙ ne-eqb _ _ h in rw q
+
+-- ---- the parts of what a call makes of an object: whose bit goes, from one object or from each; the whole; the flags
+module _ (c : Call) (o : KernelObject) where
+  pub bit-taken : (c .op ≡ 2) ⊎ (c .op ≡ 18) → revoked o (cond (eqb (c .op) 2) (c .caller) (c .b)) .object ≡ objectAfter c o
+  unfolding objectAfter opOf objectChange
+  bit-taken (inl e) = rw e
+  bit-taken (inr e) = rw e
+
+  pub bit-ended : (c .op ≡ 4) ⊎ (c .op ≡ 24) → revoked o (cond (eqb (c .op) 24) (c .b) (c .caller)) .object ≡ objectAfter c o
+  unfolding objectAfter opOf objectChange
+  bit-ended (inl e) = rw e
+  bit-ended (inr e) = rw e
+
+  pub whole-is : (c .op ≡ 16) ⊎ (c .op ≡ 17) → wholeAfter c o ≡ objectAfter c o
+  unfolding objectAfter opOf objectChange wholeAfter
+  whole-is (inl e) = rw e
+  whole-is (inr e) = rw e
+
+  pub flags-are : (c .op ≡ 19) ⊎ ((c .op ≡ 20) ⊎ (c .op ≡ 22)) → flagsAfter c o ≡ objectAfter c o
+  unfolding objectAfter opOf objectChange flagsAfter
+  flags-are (inl e) = rw e
+  flags-are (inr (inl e)) = rw e
+  flags-are (inr (inr e)) = rw e

@@ -1,5 +1,5 @@
 -- What a change does to a table of numbers: record i is loaded, rewritten and stored, or each record is, one behind the other.
-use Prim.Native.Nat.{ℕ, zero, suc}
+use Prim.Native.Nat.{ℕ, zero, suc, _%_}
 use mathlib.Core.Bool.{cond}
 use mathlib.Core.List.{List}
 use lib.Dec.{eqb}
@@ -7,9 +7,9 @@ use Rattle.mem_partition.specs.declared.MemPartition.{MemPartition}
 use Rattle.mem_domain.specs.declared.MemDomain.{MemDomain}
 use Rattle.mem_domain.specs.Domain.{slots as SLOTS, added, removed}
 use Rattle.userspace.specs.declared.KernelObject.{KernelObject}
-use Rattle.userspace.specs.Userspace.{THREADS}
+use Rattle.userspace.specs.Userspace.{THREADS, newObject, initiated, uninitiated, published}
 use Rattle.tables.specs.declared.Thread.{Thread}
-use Rattle.tables.specs.Table.{HANDLES, DOMAINS, objectAt, putObject, threadAt, putThread, partitionsAt, putTo}
+use Rattle.tables.specs.Table.{HANDLES, DOMAINS, noObject, objectAt, putObject, threadAt, putThread, partitionsAt, putTo}
 use Rattle.decoding.specs.declared.Call.{Call}
 use Rattle.decoding.specs.Calls.{opOf}
 use Rattle.judging.specs.Judge.{partitionOf}
@@ -52,6 +52,14 @@ rewritten (each f) x = f x
 
 unfoldable pub objectAfter : Call → KernelObject → KernelObject
 objectAfter c o = rewritten (objectChange (opOf (c .op)) c) o
+
+-- of that, by numbers: op 16 creates, op 17 deletes
+unfoldable pub wholeAfter : Call → KernelObject → KernelObject
+wholeAfter c o = cond (eqb (c .op) 16) (newObject (c .b % 256)) (cond (eqb (c .op) 17) noObject o)
+
+-- and the flags: op 19 initialises, op 20 takes it back, op 22 makes public
+unfoldable pub flagsAfter : Call → KernelObject → KernelObject
+flagsAfter c o = cond (eqb (c .op) 19) (initiated o) (cond (eqb (c .op) 20) (uninitiated o) (cond (eqb (c .op) 22) (published o) o))
 
 unfoldable pub threadAfter : Call → Thread → Thread
 threadAfter c r = rewritten (threadChange (opOf (c .op)) c) r

@@ -1,4 +1,6 @@
 // The latch: one call, or a log of them, on three lent tables. Whatever the tables, the bytes and the log are, there is an answer of document 01's table.
+// `call` and `run` are all that another crate can call: what judges a call and what applies it are private modules, and `call` and `run` come to them only
+// once the state was found to keep the rules.
 // Promised: `call` answers and leaves what judging/specs says; `run` is the fold of it, with the state judged once; a refusal changes nothing.
 // Inside, a step has the rules as what it requires and as what it ensures again, so no call of a log can meet a state that breaks one.
 ghost use mathlib.Core.Path.{_≡_};
@@ -12,6 +14,10 @@ ghost use Rattle.calls.specs.Calls.{Called, Run, partsIn, partAt, putAns
 ghost use Rattle.calls.specs.Steps.{Stepped, Told, Ranged};
 use answer::Answer;
 use decoding::Call;
+
+mod deciding;
+mod enacting;
+mod enacting_objects;
 
 // How many bytes a call has.
 const CALL: usize = 16;
@@ -27,16 +33,16 @@ fn step(objects: &mut [u64], threads: &mut [u32], slots: &mut [u32], c: Call) ->
     requires { ⌜ Sound (now objects) (now threads) (now slots) ⌝ }
     ensures { λ r. ⌜ Stepped (judge·spec (stateOf (now (objects .entry)) (now (threads .entry)) (now (slots .entry))) c) (after (stateOf (now (objects .entry)) (now (threads .entry)) (now (slots .entry))) c) r (now (objects .exit)) (now (threads .exit)) (now (slots .exit)) ⌝ }
 {
-    let r = judging::judge(objects, threads, slots, c);
+    let r = deciding::judge(objects, threads, slots, c);
     if r.code != answer::OK {
         return r;
     }
-    applying_objects::change_objects(objects, c);
+    enacting_objects::change_objects(objects, c);
     if c.op < 4 {
         return r;
     }
-    applying::change_threads(threads, c);
-    applying::change_slots(slots, c);
+    enacting::change_threads(threads, c);
+    enacting::change_slots(slots, c);
     r
 }
 

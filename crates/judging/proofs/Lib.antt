@@ -1,4 +1,3 @@
 pub mod Order
 pub mod Ops
 pub mod Sizes
-pub mod Unique

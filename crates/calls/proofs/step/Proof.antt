@@ -4,10 +4,10 @@ use Rattle.calls.proofs.step.Statement.{statement}
 use Rattle.calls.proofs.step.Tie as tie
 use Rattle.calls.proofs.step.Reads as reads
 use Rattle.calls.proofs.step.Lts as lts
-use Rattle.applying_objects.proofs.change_objects.Reads as change-objects-reads
-use Rattle.applying.proofs.change_slots.Reads as change-slots-reads
-use Rattle.applying.proofs.change_threads.Reads as change-threads-reads
-use Rattle.judging.proofs.judge.Reads as judge-reads
+use Rattle.calls.proofs.enacting_objects.change_objects.Reads as change-objects-reads
+use Rattle.calls.proofs.enacting.change_slots.Reads as change-slots-reads
+use Rattle.calls.proofs.enacting.change_threads.Reads as change-threads-reads
+use Rattle.calls.proofs.deciding.judge.Reads as judge-reads
 
 -- src/lib.rt:30:9
 judge-requires : tie.Need-judge-requires
