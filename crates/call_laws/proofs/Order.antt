@@ -9,7 +9,7 @@ use mathlib.Core.Bool.{Bool, true, false, cond, not, _&&_, _||_, true≢false}
 use mathlib.Core.List.{List, [], _∷_, _++_}
 use lib.Dec.{eqb, ltb, leb}
 use lib.ListN.{length}
-use borrow.Author.Tests.{not-false, lt-ltb, le-ltb, lt-leb, leb-false}
+use borrow.Author.Tests.{not-false, lt-ltb, le-ltb, lt-leb, le-leb, leb-false}
 use Rattle.answer.specs.declared.Answer.{Answer}
 use Rattle.answer.specs.declared.Code.{Code}
 use Rattle.answer.specs.declared.Code.the-variants.{Ok, Einval, Eperm, Ebadf, Eaddrinuse, Enospc, Enoent, Short}
@@ -233,27 +233,27 @@ order-codes s c =
     (refl, (refl, (refl, (refl, (refl, refusals-append (handleTests (useOf o) s (c .a)) (ruleTests o s c) (handle-codes (useOf o) s (c .a)) (rule-codes o s c))))))
 
 -- the answer where none refuses is OK, but for the memory check's walk
-ends-ok : (o : Op) (s : State) (c : Call) → o ≢ check → ending o s c .code ≡ 0
+ends-ok : (o : Op) (s : State) (c : Call) → (o ≡ check) ⊎ (ending o s c .code ≡ 0)
 unfolding ending
-ends-ok validate s c n = refl
-ends-ok grant s c n = refl
-ends-ok release s c n = refl
-ends-ok check s c n = absurd (n refl)
-ends-ok exit s c n = refl
-ends-ok (sup create) s c n = refl
-ends-ok (sup delete) s c n = refl
-ends-ok (sup revoke) s c n = refl
-ends-ok (sup init) s c n = refl
-ends-ok (sup uninit) s c n = refl
-ends-ok (sup recycle) s c n = refl
-ends-ok (sup publish) s c n = refl
-ends-ok (sup newThread) s c n = refl
-ends-ok (sup end) s c n = refl
-ends-ok (sup inherit) s c n = refl
-ends-ok (sup assign) s c n = refl
-ends-ok (sup add) s c n = refl
-ends-ok (sup remove) s c n = refl
-ends-ok unknown s c n = refl
+ends-ok validate s c = inr refl
+ends-ok grant s c = inr refl
+ends-ok release s c = inr refl
+ends-ok check s c = inl refl
+ends-ok exit s c = inr refl
+ends-ok (sup create) s c = inr refl
+ends-ok (sup delete) s c = inr refl
+ends-ok (sup revoke) s c = inr refl
+ends-ok (sup init) s c = inr refl
+ends-ok (sup uninit) s c = inr refl
+ends-ok (sup recycle) s c = inr refl
+ends-ok (sup publish) s c = inr refl
+ends-ok (sup newThread) s c = inr refl
+ends-ok (sup end) s c = inr refl
+ends-ok (sup inherit) s c = inr refl
+ends-ok (sup assign) s c = inr refl
+ends-ok (sup add) s c = inr refl
+ends-ok (sup remove) s c = inr refl
+ends-ok unknown s c = inr refl
 
 module _ (s : State) (c : Call) where
   -- the first test that holds is the answer, with value 0
@@ -271,7 +271,8 @@ module _ (s : State) (c : Call) where
   -- each refusal exactly when it is the first of the order that holds
   pub refused-exactly : opOf (c .op) ≢ check → (n : Code) → 0 < numberOf n → (judge s c .code ≡ numberOf n) ↔ By (order s c) n
   refused-exactly o n z =
-      rw (judge-order s c) (code-exactly (order s c) (ending (opOf (c .op)) s c) (order-codes s c) n z (ends-ok (opOf (c .op)) s c o))
+      rw (judge-order s c)
+      (code-exactly (order s c) (ending (opOf (c .op)) s c) (order-codes s c) n z (⊎-elim (λ e. absurd (o e)) (λ e. e) (ends-ok (opOf (c .op)) s c)))
 
 -- ---- the memory check's walk
 
@@ -297,16 +298,16 @@ module _ (s : State) (c : Call) (o : opOf (c .op) ≡ check) where
   unfolding reached
   walk-short f u h = walk-is f ∙ rw (u, lt-leb (c .c) run h)
 
-  walk-ends :
-      (x y : Bool) (n : Code) → 0 < numberOf n → None (order s c) → supervisor s (c .caller) ≡ x → leb (c .c) run ≡ y → judge s c .code ≡ numberOf n →
-      (n ≡ Eperm) × Walked s c
+  -- none holds and the answer is not OK
+  pub walk-ends : (x y : Bool) → judge s c .code ≢ 0 → None (order s c) → supervisor s (c .caller) ≡ x → leb (c .c) run ≡ y
+      → (judge s c .code ≡ numberOf Eperm) × Walked s c
   unfolding reached
-  walk-ends true y n z f u e k = let d : judge s c ≡ done = walk-is f ∙ rw u in absurd (omega (arith, ap (λ a. a .code) d))
-  walk-ends false true n z f u e k = let d : judge s c ≡ done = walk-is f ∙ rw (u, e) in absurd (omega (arith, ap (λ a. a .code) d))
-  walk-ends false false n z f u e k =
+  walk-ends true y n f u e = let d : judge s c ≡ done = walk-is f ∙ rw u in absurd (n (ap (λ a. a .code) d))
+  walk-ends false true n f u e = let d : judge s c ≡ done = walk-is f ∙ rw (u, e) in absurd (n (ap (λ a. a .code) d))
+  walk-ends false false n f u e =
       let h = leb-false (c .c) run e in
       let d = walk-short f u h in
-      (same-name n Eperm (sym k ∙ ap (λ a. a .code) d), record { none = f; user = u; least = rw (ap (λ a. a .value) d) (run-least (slotsOf s c) (eqb (c .d) 1) (c .b) (c .c) h) })
+      (ap (λ a. a .code) d, record { none = f; user = u; least = rw (ap (λ a. a .value) d) (run-least (slotsOf s c) (eqb (c .d) 1) (c .b) (c .c) h) })
 
   -- the walk's EPERM: some byte of the range is not covered
   pub check-eperm-when : None (order s c) → supervisor s (c .caller) ≡ false → (x : ℕ) → c .b ≤ x → x < c .b + c .c
@@ -323,7 +324,9 @@ module _ (s : State) (c : Call) (o : opOf (c .op) ≡ check) where
     where
       there : Verdict (order s c) → judge s c .code ≡ numberOf n → By (order s c) n ⊎ ((n ≡ Eperm) × Walked s c)
       there (by i f) e = inl (record { test = i; first = f; code = same-name (testAt (order s c) i .1) n (ap (λ a. a .code) (sym (refused-when s c i f)) ∙ e) })
-      there (none f) e = inr (walk-ends (supervisor s (c .caller)) (leb (c .c) run) n z f refl refl e)
+      there (none f) e =
+          let w = walk-ends (supervisor s (c .caller)) (leb (c .c) run) (λ q. omega arith) f refl refl in
+          inr (same-name n Eperm (sym e ∙ w .0), w .1)
 
       back : By (order s c) n → judge s c .code ≡ numberOf n
       back b = ap (λ a. a .code) (refused-when s c (b .test) (b .first)) ∙ ap numberOf (b .code)
@@ -381,13 +384,39 @@ module _ (s : State) (c : Call) (e : judge s c .code ≡ 0) where
   unfolding ending
   remove-value o = ap (λ x. x .value) (ends ∙ ap (λ x. ending x s c) o)
 
--- a refusal returns 0, but for the memory check's walk
-pub refused-value : (s : State) (c : Call) → judge s c .code ≢ 0 → opOf (c .op) ≢ check → judge s c .value ≡ 0
-refused-value s c n o = go (verdict (order s c))
+-- a refusal returns 0, unless it is the memory check's walk: no test holds, and the value is the least address that is not covered
+pub refused-value : (s : State) (c : Call) → judge s c .code ≢ 0
+    → (judge s c .value ≡ 0) ⊎ ((opOf (c .op) ≡ check) × (judge s c .code ≡ numberOf Eperm) × Walked s c)
+refused-value s c n = go (verdict (order s c))
   where
-    go : Verdict (order s c) → judge s c .value ≡ 0
-    go (by i f) = ap (λ a. a .value) (refused-when s c i f)
-    go (none f) = absurd (n (ap (λ a. a .code) (ended-when s c f) ∙ ends-ok (opOf (c .op)) s c o))
+    ended : None (order s c) → (opOf (c .op) ≡ check) ⊎ (ending (opOf (c .op)) s c .code ≡ 0)
+        → (judge s c .value ≡ 0) ⊎ ((opOf (c .op) ≡ check) × (judge s c .code ≡ numberOf Eperm) × Walked s c)
+    ended f (inl o) = let w = walk-ends s c o (supervisor s (c .caller)) (leb (c .c) (run s c o)) n f refl refl in inr (o, w .0, w .1)
+    ended f (inr z) = absurd (n (ap (λ a. a .code) (ended-when s c f) ∙ z))
+
+    go : Verdict (order s c) → (judge s c .value ≡ 0) ⊎ ((opOf (c .op) ≡ check) × (judge s c .code ≡ numberOf Eperm) × Walked s c)
+    go (by i f) = inl (ap (λ a. a .value) (refused-when s c i f))
+    go (none f) = ended f (ends-ok (opOf (c .op)) s c)
+
+-- so where a test refuses it the memory check too returns 0: no such thread, a dead one, a bad range
+bad-range : (w : Bool) (s : State) (c : Call) → (eqb (c .c) 0 || ltb 4294967295 (c .b + c .c)) ≡ true → (not w ⇒ Einval ⨾ rule check s c) ≡ refused Einval
+unfolding rule memoryRule _⇒_⨾_
+bad-range true s c e = rw e
+bad-range false s c e = refl
+
+module _ (s : State) (c : Call) where
+  pub outside-refused : THREADS ≤ c .caller → judge s c ≡ refused Einval
+  unfolding judge
+  outside-refused h = stop _ _ _ (le-leb THREADS (c .caller) h)
+
+  module _ (b : c .caller < THREADS) where
+    pub dead-refused : live s (c .caller) ≡ false → judge s c ≡ refused Eperm
+    unfolding judge
+    dead-refused d = pass _ _ _ (lt-leb THREADS (c .caller) b) ∙ stop _ _ _ (rw d)
+
+    pub range-refused : live s (c .caller) ≡ true → opOf (c .op) ≡ check → (eqb (c .c) 0 || ltb 4294967295 (c .b + c .c)) ≡ true → judge s c ≡ refused Einval
+    unfolding judge judgeOp isUnknown isPrivileged useOf withHandle _⇒_⨾_
+    range-refused l o e = rw (lt-leb THREADS (c .caller) b, l, o) (bad-range (wellFormed check c) s c e)
 
 -- ---- which answers there are at all
 

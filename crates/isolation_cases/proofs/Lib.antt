@@ -1,3 +1,4 @@
 pub mod Sentences
 pub mod Cases
 pub mod Tables
+pub mod TableRuns

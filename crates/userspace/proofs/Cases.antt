@@ -137,6 +137,8 @@ further-flags-kept (Op.checkAccess t s) o ne = refl
 further-flags-kept (Op.validate e t s c) o ne = refl
 further-flags-kept Op.isInitialized o ne = refl
 further-flags-kept Op.isPublic o ne = refl
+further-flags-kept Op.isAlloc o ne = refl
+further-flags-kept Op.isDriver o ne = refl
 further-flags-kept Op.objTypeGet o ne = refl
 further-flags-kept (Op.hasPerm t) o ne = refl
 

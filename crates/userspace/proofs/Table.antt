@@ -255,6 +255,8 @@ step-table (Op.checkAccess t s) o = ap (λ (b : Bool). tellsT (says b) (tableOf 
 step-table (Op.validate e t s c) o = ap (λ (v : Validated). tellsT (answerOf v) (tableOf o)) (validate-step o e t s c)
 step-table Op.isInitialized o = refl
 step-table Op.isPublic o = refl
+step-table Op.isAlloc o = refl
+step-table Op.isDriver o = refl
 step-table Op.objTypeGet o = refl
 step-table (Op.hasPerm t) o = ap (λ (a : Answer). tellsT a (tableOf o)) (has-perm-step o t)
 

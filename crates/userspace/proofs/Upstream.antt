@@ -337,6 +337,8 @@ invariant-inductive (Op.checkAccess t s) o h = h
 invariant-inductive (Op.validate e t s c) o h = h
 invariant-inductive Op.isInitialized o h = h
 invariant-inductive Op.isPublic o h = h
+invariant-inductive Op.isAlloc o h = h
+invariant-inductive Op.isDriver o h = h
 invariant-inductive Op.objTypeGet o h = h
 invariant-inductive (Op.hasPerm t) o h = h
 

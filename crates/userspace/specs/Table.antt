@@ -157,14 +157,14 @@ didOf c = record { code = c .code; value = c .value; table = tableOf (c .object)
 
 -- ---- any sequence of operations and queries
 
--- every function of upstream's that takes or makes a record
+-- every function of upstream's that takes or makes a record, and its two public fields that have no function: a caller reads them
 pub data Op : Type 0 where
   new : ℕ → Op
   grant revoke clearThread recycle : ℕ → Op
   clearAll init uninit makePublic : Op
   checkAccess : ℕ → Bool → Op
   validate : ℕ → ℕ → Bool → InitCheck → Op
-  isInitialized isPublic objTypeGet : Op
+  isInitialized isPublic isAlloc isDriver objTypeGet : Op
   hasPerm : ℕ → Op
 
 -- an operation that answers nothing
@@ -205,6 +205,8 @@ step (checkAccess t s) o = tells (says (access o t s)) o
 step (validate e t s c) o = tells (answerOf (validated o e t s c)) o
 step isInitialized o = tells (says (initialised o)) o
 step isPublic o = tells (says (public o)) o
+step isAlloc o = tells (says (allocated o)) o
+step isDriver o = tells (says (driver o)) o
 step objTypeGet o = tells (gives (o .«obj_type»)) o
 step (hasPerm t) o = tells (bitAnswer o t) o
 
@@ -223,6 +225,8 @@ stepT (checkAccess t s) u = tellsT (says (checkT u t s)) u
 stepT (validate e t s c) u = tellsT (answerOf (validateT u e t s c)) u
 stepT isInitialized u = tellsT (says (u .flag-initialized)) u
 stepT isPublic u = tellsT (says (u .flag-public)) u
+stepT isAlloc u = tellsT (says (u .flag-alloc)) u
+stepT isDriver u = tellsT (says (u .flag-driver)) u
 stepT objTypeGet u = tellsT (gives (u .kind)) u
 stepT (hasPerm t) u = tellsT (hasPermT u t) u
 
