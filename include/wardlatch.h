@@ -3,7 +3,10 @@
  * Every function is total: it answers for all numbers, all bytes and every length, allocates nothing and keeps nothing between calls. The archive needs no
  * function from outside but memcpy, memset, memmove and memcmp, which a compiler may put in.
  * A function returns an answer's number (below), or a bool. A value comes back in a number that the caller lends.
- * On a refusal, an answer other than OK, nothing lent is changed but that number, which becomes 0; one exception: the memory check, see wardlatch_call.
+ * On a refusal, an answer other than OK, nothing lent is changed but that number, which becomes 0; one exception: where the memory check's walk says EPERM, see wardlatch_call.
+ * What only the kernel around it can see to: (1) the second byte of a call is the thread that really calls: write it yourself, from the thread that trapped,
+ * and never pass a thread's own sixteen bytes through, or the radio can be thread 0; (2) nobody but these functions writes the three tables between calls:
+ * keep them in memory of your own; (3) no window of a domain lies over the tables, your stack or your code: refuse such a partition before you pass it on.
  * What the caller owes, as in all C: each pointer is to as many elements as the length behind it says, is aligned and not null (a length of 0 too),
  * and what a call may write overlaps nothing else that is lent to it.
  */

@@ -1,6 +1,5 @@
 -- What the loop over the input cites: a ready state and roomy buffers make every feeding OK, and are so again behind it.
 use Prim.Native.Nat.{ℕ, _+_, _-_, _*_, _/_, _%_, _≤_, _<_}
-use native.Mathlib.Decide.{ℕ-discrete}
 use native.Mathlib.Omega.{arith}
 use mathlib.Core.Path.{_≡_, refl, sym, ap, _∙_}
 use mathlib.Core.Bool.{Bool, true, false, cond, _||_}
@@ -8,7 +7,7 @@ use mathlib.Core.List.{List, [], _++_}
 use lib.Dec.{eqb, ltb}
 use lib.ListN.{length, take, drop, length-take, length-drop, length-append}
 use lib.Seq.{length-take-le}
-use borrow.Author.Tests.{eq-eqb, ne-eqb, le-ltb}
+use borrow.Author.Tests.{le-ltb}
 use Rattle.io.specs.Counts.{Counts}
 use Rattle.lines.specs.declared.Put.{Put}
 use Rattle.answer.specs.Stores.{cat}
@@ -21,6 +20,7 @@ use Rattle.calls.proofs.Left.{ran-left}
 use Rattle.replaying.specs.declared.Fed.{Fed}
 use Rattle.replaying.specs.Printing.{longest, linesTo, laid, printAnswer, printedParts, Printed}
 use Rattle.replaying.specs.Feeding.{cutAt, ripe, rest, unanswered, FedIs}
+use Rattle.replaying.proofs.Parts.{parts-are}
 use Rattle.command.specs.Ready.{Roomy, Ready, Kept}
 
 -- bytes counted at the start of a buffer whose length is known
@@ -30,13 +30,6 @@ counts n m xs e h =
     (g, sym (length-take-le n xs g))
 
 -- ---- room
-
-parts-are : (n : ℕ) → partsIn n ≡ (n + 15) / 16
-parts-are n = go (ℕ-discrete (n % 16) 0)
-  where
-    go : Dec (n % 16 ≡ 0) → partsIn n ≡ (n + 15) / 16
-    go (yes z) = rw (eq-eqb (n % 16) 0 z) (omega arith)
-    go (no z) = rw (ne-eqb (n % 16) 0 z) (omega arith)
 
 parts-most : (m n : ℕ) → m ≤ n → partsIn m ≤ partsIn n
 parts-most m n h = omega (arith, parts-are m, parts-are n)
@@ -142,3 +135,10 @@ kept-more a b =
       numbers = b .numbers ∙ a .numbers;
       lines = b .lines ∙ a .lines;
     }
+
+pub status-known : {came r : ℕ} → r ≡ cond (eqb came 0) 0 3 → r < 4
+status-known {came} {r} e = go (eqb came 0) refl
+  where
+    go : (b : Bool) → eqb came 0 ≡ b → r < 4
+    go true f = let z : r ≡ 0 = e ∙ rw f in omega arith
+    go false f = let z : r ≡ 3 = e ∙ rw f in omega arith

@@ -4,7 +4,7 @@
 // the state keeps the rules and every buffer has its room (specs/Ready.antt), so no answer of those two is VALUE or ROOM. What the system is handed, and
 // in which order, no contract can say.
 ghost use mathlib.Core.Path.{_≡_};
-ghost use mathlib.Core.Bool.{_&&_, not};
+ghost use mathlib.Core.Bool.{cond, _&&_, not};
 ghost use Prim.Native.Nat.{_+_, _≤_, _<_};
 ghost use lib.Dec.{eqb};
 ghost use lib.ListN.{length, getD};
@@ -300,10 +300,11 @@ struct Place {
     first: u32,
 }
 
-fn status_of(last: bool) -> u32
-    ensures { λ r. ⌜ r < 4 ⌝ }
+// Where nothing came, the input has ended.
+fn status_of(came: usize) -> u32
+    ensures { λ r. ⌜ r ≡ cond (eqb came 0) 0 3 ⌝ }
 {
-    if last {
+    if came == 0 {
         return DONE;
     }
     ON
@@ -331,22 +332,21 @@ fn turn(
             first: t.first,
         };
     }
-    let last = got.bytes == 0;
     let fed = replaying::feed(
         objects,
         threads,
         slots,
         t.first,
         log,
-        t.have + got.bytes,
-        last,
+        t.have,
+        got.bytes,
         words,
         out,
         text,
     );
     let put = fed.put;
     Place {
-        status: emit(text, put.bytes, status_of(last)),
+        status: emit(text, put.bytes, status_of(got.bytes)),
         have: fed.left,
         first: fed.next,
     }

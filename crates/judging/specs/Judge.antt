@@ -26,7 +26,7 @@ use Rattle.mem_check.specs.Memory.{memoryRule}
 use Rattle.decoding.specs.declared.Call.{Call}
 use Rattle.decoding.specs.Calls.{Sup, create, delete, revoke, init, uninit, recycle, publish, thread as newThread, end, inherit, assign, add, remove, Op, validate, grant, release, check, exit, sup, unknown, opOf, callOf}
 
--- ---- answers: OK returns 0, but add and remove return the slot; a refusal returns 0, but the memory check the first address that is not covered
+-- ---- answers: OK returns 0, but add and remove return the slot; a refusal returns 0, but the memory check's walk the first address that is not covered
 
 -- the first test that holds refuses, with the name beside it
 infixr 20 _⇒_⨾_

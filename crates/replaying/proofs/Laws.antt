@@ -198,3 +198,16 @@ module _ (words : Bool) (first : ℕ) (os ts ss log out : List ℕ) where
               let room : length out′ ≡ length out = ap length o ∙ answers-length s log out n in
               let d = lines-done (lineIn words first log out′) (longest words) out′ (r .answers) (omega (arith, k, room)) (rw k h) l in
               as-run (d .0 ∙ ap (λ (l : List ℕ). putWith 0 (length l)) same ∙ sym f) (d .1 ∙ ap (λ (l : List ℕ). laid l text) (same ∙ ap (linesTo words first s log) (sym b)))
+
+-- an accepted log: how many bytes were put
+pub done-answer : (words : Bool) (first : ℕ) (os ts ss log out : List ℕ) (room : ℕ) {p : Put} → p ≡ printAnswer words first os ts ss log out room → p .code ≡ 0
+    → p .bytes ≡ length (linesTo words first (stateOf os ts ss) log (partsIn (length log)))
+unfolding printAnswer
+done-answer words first os ts ss log out room {p} a z =
+    go (keepsTest os ts ss) (ltb (length out) (2 * partsIn (length log)) || ltb room (longest words * partsIn (length log))) refl refl
+  where
+    go : (b c : Bool) → keepsTest os ts ss ≡ b → (ltb (length out) (2 * partsIn (length log)) || ltb room (longest words * partsIn (length log))) ≡ c
+        → p .bytes ≡ length (linesTo words first (stateOf os ts ss) log (partsIn (length log)))
+    go false c e f = let y : p .code ≡ 9 = ap (λ (x : Put). x .code) a ∙ rw e in absurd (omega (arith, y, z))
+    go true true e f = let y : p .code ≡ 11 = ap (λ (x : Put). x .code) a ∙ rw (e, f) in absurd (omega (arith, y, z))
+    go true false e f = ap (λ (x : Put). x .bytes) a ∙ rw (e, f)

@@ -1,7 +1,7 @@
 -- What the functions here cite of numbers and of parts of a buffer.
 use Prim.Native.Nat.{ℕ, suc, _+_, _-_, _*_, _/_, _%_, _≤_, _<_, min}
 use native.Mathlib.Nat.{zero-add, add-comm, mul-comm, le-div-iff-mul-le}
-use native.Mathlib.Decide.{decLe}
+use native.Mathlib.Decide.{decLe, ℕ-discrete}
 use native.Mathlib.Numerals.{add-one}
 use native.Mathlib.Omega.{arith}
 use mathlib.Core.Path.{_≡_, refl, sym, ap, _∙_}
@@ -14,6 +14,19 @@ use lib.Seq.{paste, paste-suc, take-all, drop-length, take-take, take-add, drop-
 use borrow.Author.Tests.{eq-eqb, ne-eqb, le-leb, lt-leb}
 use Rattle.calls.specs.Calls.{partsIn}
 use Rattle.replaying.specs.Printing.{laid}
+
+-- ---- the parts of a log
+
+pub parts-are : (n : ℕ) → partsIn n ≡ (n + 15) / 16
+parts-are n = go (ℕ-discrete (n % 16) 0)
+  where
+    go : Dec (n % 16 ≡ 0) → partsIn n ≡ (n + 15) / 16
+    go (yes z) = rw (eq-eqb (n % 16) 0 z) (omega arith)
+    go (no z) = rw (ne-eqb (n % 16) 0 z) (omega arith)
+
+-- whole calls in front are a part each
+pub parts-behind : (m n : ℕ) → partsIn (16 * m + n) ≡ m + partsIn n
+parts-behind m n = parts-are (16 * m + n) ∙ omega (arith, parts-are n)
 
 -- ---- room for each part
 

@@ -1,12 +1,13 @@
 // What replay does between reading and writing: a log as it comes, its answers, their lines.
-// Promised of `feed`: of the first n bytes of a buffer the whole calls are answered (at the input's end every part), the three tables are what `run` leaves, the
+// Promised of `feed`: of the bytes at a buffer's front, those that were kept and those that came, the whole calls are answered (at the input's end, where
+// none came, every part), the three tables are what `run` leaves, the
 // text is their lines in order, in numbers or in words, and the bytes of a call that is not yet whole stand at the buffer's front, with their number. VALUE and
 // ROOM change nothing. `put_refusal` puts the line of an image that was refused. What pieces the log comes in makes no difference (proofs/Pieces.antt).
 ghost use mathlib.Core.Path.{_≡_};
 ghost use mathlib.Core.Bool.{cond};
 ghost use mathlib.Core.List.{List, [], _∷_};
 ghost use Prim.Native.Nat.{ℕ, _+_, _*_, _≤_, _<_, min};
-ghost use lib.Dec.{leb};
+ghost use lib.Dec.{eqb, leb};
 ghost use lib.ListN.{length, take, drop};
 ghost use Rattle.lines.specs.Lines.{Lines};
 ghost use Rattle.calls.specs.Calls.{partsIn};
@@ -128,13 +129,17 @@ fn keep(log: &mut [u8], from: usize, n: usize)
     }
 }
 
-fn least(a: usize, b: usize) -> usize
-    ensures { λ r. ⌜ r ≡ min a b ⌝ }
+// How many bytes are there: those that were kept and those that came, as far as the buffer goes.
+fn there(have: usize, more: usize, most: usize) -> usize
+    ensures { λ r. ⌜ r ≡ min (have + more) most ⌝ }
 {
-    if a < b {
-        return a;
+    if most <= have {
+        return most;
     }
-    b
+    if most - have <= more {
+        return most;
+    }
+    have + more
 }
 
 // The number of the call behind n others.
@@ -145,22 +150,23 @@ fn number_after(first: u32, n: usize) -> u32
     std::num::wrapping_add_u32(first, more)
 }
 
+// `have` bytes were kept, and `more` came behind them: none at the input's end.
 pub fn feed(
     objects: &mut [u64],
     threads: &mut [u32],
     slots: &mut [u32],
     first: u32,
     log: &mut [u8],
-    n: usize,
-    last: bool,
+    have: usize,
+    more: usize,
     words: bool,
     out: &mut [u32],
     text: &mut [u8],
 ) -> Fed
-    ensures { λ r. ⌜ FedIs words last first (now (objects .entry)) (now (threads .entry)) (now (slots .entry)) (now (log .entry)) n (now (out .entry)) (now (text .entry)) r (now (objects .exit)) (now (threads .exit)) (now (slots .exit)) (now (log .exit)) (now (out .exit)) (now (text .exit)) ⌝ }
+    ensures { λ r. ⌜ FedIs words (eqb more 0) first (now (objects .entry)) (now (threads .entry)) (now (slots .entry)) (now (log .entry)) (have + more) (now (out .entry)) (now (text .entry)) r (now (objects .exit)) (now (threads .exit)) (now (slots .exit)) (now (log .exit)) (now (out .exit)) (now (text .exit)) ⌝ }
 {
-    let have = least(n, log.len());
-    let cut = cut_at(have, last);
+    let n = there(have, more, log.len());
+    let cut = cut_at(n, more == 0);
     let put = print(
         objects,
         threads,
@@ -174,14 +180,14 @@ pub fn feed(
     if put.code != OK {
         return Fed {
             put,
-            left: have,
+            left: n,
             next: first,
         };
     }
-    keep(log, cut, have);
+    keep(log, cut, n);
     Fed {
         put,
-        left: have - cut,
+        left: n - cut,
         next: number_after(first, cut / CALL),
     }
 }
