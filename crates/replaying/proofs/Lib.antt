@@ -4,3 +4,4 @@ pub mod Laws
 pub mod Parts
 pub mod Feeds
 pub mod Unique
+pub mod Whole

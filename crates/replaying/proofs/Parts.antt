@@ -28,6 +28,9 @@ parts-are n = go (ℕ-discrete (n % 16) 0)
 pub parts-behind : (m n : ℕ) → partsIn (16 * m + n) ≡ m + partsIn n
 parts-behind m n = parts-are (16 * m + n) ∙ omega (arith, parts-are n)
 
+pub parts-whole : (m : ℕ) → partsIn (16 * m) ≡ m
+parts-whole m = parts-are (16 * m) ∙ omega arith
+
 -- ---- room for each part
 
 div-room : (a each room : ℕ) → 0 < each → leb a (room / each) ≡ leb (each * a) room

@@ -15,8 +15,8 @@ use Rattle.calls.proofs.Left.{ran-left}
 use Rattle.explain.specs.Words.{numberAt}
 use Rattle.replaying.specs.declared.Fed.{Fed}
 use Rattle.replaying.specs.Printing.{linesTo, laid, printAnswer, printedParts}
-use Rattle.replaying.specs.Feeding.{ripe, rest, unanswered, FedIs}
-use Rattle.replaying.proofs.Parts.{parts-behind}
+use Rattle.replaying.specs.Feeding.{cutAt, ripe, rest, unanswered, FedIs}
+use Rattle.replaying.proofs.Parts.{parts-behind, parts-whole}
 use Rattle.replaying.proofs.Pieces.{ran-second, lines-in-pieces}
 use Rattle.replaying.proofs.Laws.{done-answer}
 
@@ -31,6 +31,9 @@ allLines words first s log = linesTo words first s log (partsIn (length log))
 
 abbrev pub allRan : State → List ℕ → State
 allRan s log = ranTo s log (partsIn (length log))
+
+whole-calls : (m : ℕ) → 16 * m / 16 ≡ m
+whole-calls m = omega arith
 
 -- ---- bytes that are there, cut behind the last whole call
 module _ (b : List ℕ) where
@@ -106,6 +109,9 @@ module _ {words last : Bool} {first : ℕ} {os ts ss log : List ℕ} {n : ℕ} {
       let e : length (rest last (take n log)) ≡ r .left = sym (d .left ∙ ap length u) in
       ap (take (r .left)) (d .kept ∙ ap (λ (l : List ℕ). laid l log) u) ∙ take-at (rest last (take n log)) (drop (length (rest last (take n log))) log) (r .left) e
 
+  its-next : r .next ≡ numberAt first (cutAt last (length (take n log)) / 16)
+  its-next = d .next ∙ rw ok
+
   its-state : Sound os ts ss → Sound os′ ts′ ss′ × (stateOf os′ ts′ ss′ ≡ allRan (stateOf os ts ss) (ripe last (take n log)))
   its-state sound =
       let l = ran-left sound (ripe last (take n log)) _ (d .printed .objects) (d .printed .threads) (d .printed .slots) in
@@ -140,18 +146,25 @@ replayed {words} {first} {os} {ts} {ss} {kept} z (end {n = n} {log = log} d e ok
       state = t .1 ∙ ap (allRan (stateOf os ts ss)) all;
       sound = t .0;
     }
-replayed {words} {first} {os} {ts} {ss} {kept} z (piece {n = n} {c = c} {log = log} {os′ = os₁} {ts′ = ts₁} {ss′ = ss₁} {later = later} {cs = cs} {r = r} d e ok f) =
+replayed {words} {first} {os} {ts} {ss} {kept} z (piece {n = n} {c = c} {log = log} {os′ = os₁} {ts′ = ts₁} {ss′ = ss₁} {log′ = log₁} {later = later} {cs = cs} {r = r} d e ok f) =
     let b = kept ++ c in
     let m = length b / 16 in
     let s = stateOf os ts ss in
     let t = its-state d ok z in
-    let parts : partsIn (length (ripe false b)) ≡ m = ap partsIn (whole-length b ∙ sym (add-zero (16 * m))) ∙ parts-behind m 0 ∙ add-zero m in
+    let parts : partsIn (length (ripe false b)) ≡ m = ap partsIn (whole-length b) ∙ parts-whole m in
     let state : stateOf os₁ ts₁ ss₁ ≡ ranTo s (ripe false b) m = t .1 ∙ ap (λ (l : List ℕ). allRan s (ripe false l)) e ∙ ap (ranTo s (ripe false b)) parts in
-    let next : r .next ≡ numberAt first m = d .next ∙ its-number d ok ∙ ap (λ (l : List ℕ). numberAt first (length l / 16)) e in
-    let kept′ : take (r .left) _ ≡ rest false b = its-kept d ok ∙ ap (rest false) e in
+    let next : r .next ≡ numberAt first m = its-next d ok ∙ ap (λ (l : List ℕ). numberAt first (cutAt false (length l) / 16)) e ∙ ap (numberAt first) (whole-calls m) in
+    let held : take (r .left) log₁ ≡ rest false b = its-kept d ok ∙ ap (rest false) e in
+    let front : take (r .put .bytes) _ ≡ linesTo words first s (ripe false b) m =
+        its-text d ok ∙ ap (λ (l : List ℕ). allLines words first s (ripe false l)) e ∙ ap (linesTo words first s (ripe false b)) parts
+    in
     let i = replayed (t .0) f in
     record {
-      lines = ?;
-      state = ?;
+      lines =
+          ap (λ (l : List ℕ). l ++ later) front
+          ∙ ap (λ (l : List ℕ). linesTo words first s (ripe false b) m ++ l) (i .lines ∙ rw (next, state, held) refl)
+          ∙ cut-lines b (joined cs) words first s
+          ∙ ap (allLines words first s) (append-assoc kept c (joined cs));
+      state = i .state ∙ rw (state, held) refl ∙ cut-ran b (joined cs) s ∙ ap (allRan s) (append-assoc kept c (joined cs));
       sound = i .sound;
     }
