@@ -136,8 +136,8 @@ kept-more a b =
       lines = b .lines ∙ a .lines;
     }
 
-pub status-known : {came r : ℕ} → r ≡ cond (eqb came 0) 0 3 → r < 4
-status-known {came} {r} e = go (eqb came 0) refl
+pub status-known : (came : ℕ) {r : ℕ} → r ≡ cond (eqb came 0) 0 3 → r < 4
+status-known came {r} e = go (eqb came 0) refl
   where
     go : (b : Bool) → eqb came 0 ≡ b → r < 4
     go true f = let z : r ≡ 0 = e ∙ rw f in omega arith

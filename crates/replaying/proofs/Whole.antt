@@ -50,7 +50,7 @@ module _ (b : List ℕ) where
     parts-regroup : length b / 16 + partsIn (length (rest false b ++ later)) ≡ partsIn (length (b ++ later))
     parts-regroup =
         let n : length (b ++ later) ≡ 16 * (length b / 16) + length (rest false b ++ later) =
-            ap length (sym regroup) ∙ length-append (ripe false b) (rest false b ++ later) ∙ ap (λ (i : ℕ). i + length (rest false b ++ later)) whole-length
+        ap length (sym regroup) ∙ length-append (ripe false b) (rest false b ++ later) ∙ ap (λ (i : ℕ). i + length (rest false b ++ later)) whole-length
         in
         sym (parts-behind (length b / 16) (length (rest false b ++ later))) ∙ ap partsIn (sym n)
 
@@ -156,7 +156,7 @@ replayed {words} {first} {os} {ts} {ss} {kept} z (piece {n = n} {c = c} {log = l
     let next : r .next ≡ numberAt first m = its-next d ok ∙ ap (λ (l : List ℕ). numberAt first (cutAt false (length l) / 16)) e ∙ ap (numberAt first) (whole-calls m) in
     let held : take (r .left) log₁ ≡ rest false b = its-kept d ok ∙ ap (rest false) e in
     let front : take (r .put .bytes) _ ≡ linesTo words first s (ripe false b) m =
-        its-text d ok ∙ ap (λ (l : List ℕ). allLines words first s (ripe false l)) e ∙ ap (linesTo words first s (ripe false b)) parts
+    its-text d ok ∙ ap (λ (l : List ℕ). allLines words first s (ripe false l)) e ∙ ap (linesTo words first s (ripe false b)) parts
     in
     let i = replayed (t .0) f in
     record {
