@@ -45,7 +45,7 @@ extern "C" {
 /* The state: three tables that the caller lends, of just these lengths. All zero is a state too: nothing lives, so nothing may be done.
  *   objects  for handle h at 2h: type + 256 * flags; at 2h + 1: its permission word, bit t for thread t
  *   threads  for thread t at 3t: 0 dead, 1 user, 2 supervisor; its domain or 255; the handle of its thread object
- *   slots    for slot k of domain d at 3 * (16d + k): start, size, attr (1 read, 2 write, 4 execute); size 0 is free
+ *   slots    for slot k of domain d at 3 * (16d + k): start, size, attr (to read 1, to write 2, to execute 4, added up); size 0 is free
  * A domain alone is 48 words: those at slots + 48d, or any others of the same form. */
 #define WARDLATCH_OBJECT_NUMBERS 512u
 #define WARDLATCH_THREAD_NUMBERS 192u
