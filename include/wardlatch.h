@@ -2,6 +2,7 @@
  *
  * Every function is total: it answers for all numbers, all bytes and every length, allocates nothing and keeps nothing between calls. The archive needs no
  * function from outside but memcpy, memset, memmove and memcmp, which a compiler may put in.
+ * docs/SPEC.md says of each what it answers; its section 12 is about C.
  * A function returns an answer's number (below), or a bool. A value comes back in a number that the caller lends.
  * On a refusal, an answer other than OK, nothing lent is changed but that number, which becomes 0; one exception: where the memory check's walk says EPERM, see wardlatch_call.
  * What only the kernel around it can see to: (1) the second byte of a call is the thread that really calls: write it yourself, from the thread that trapped,
@@ -21,20 +22,20 @@
 extern "C" {
 #endif
 
-/* Answers. */
+/* Answers (SPEC 1.1), and what they mostly say. */
 #define WARDLATCH_OK 0u          /* done */
-#define WARDLATCH_EINVAL 1u      /* bad argument, or not initialised when required */
+#define WARDLATCH_EINVAL 1u      /* an argument is not allowed, or an object that must be initialised is not */
 #define WARDLATCH_EPERM 2u       /* no access */
-#define WARDLATCH_EBADF 3u       /* no such object, or wrong type */
-#define WARDLATCH_EADDRINUSE 4u  /* initialised when it must not be; taken */
-#define WARDLATCH_ENOSPC 5u      /* no free partition slot */
-#define WARDLATCH_ENOENT 6u      /* no such partition */
+#define WARDLATCH_EBADF 3u       /* the handle has no object, or one of another type */
+#define WARDLATCH_EADDRINUSE 4u  /* taken, or initialised where it must not be */
+#define WARDLATCH_ENOSPC 5u      /* no slot of the domain is free */
+#define WARDLATCH_ENOENT 6u      /* the domain has no such window */
 #define WARDLATCH_SHORT 7u       /* image or call cut off */
 #define WARDLATCH_MAGIC 8u       /* an image's first 8 bytes are wrong */
-#define WARDLATCH_VALUE 9u       /* image, register or state field not allowed */
-#define WARDLATCH_NOPLAN 10u     /* the planner cannot express the domain */
+#define WARDLATCH_VALUE 9u       /* a state, an image or a plan breaks a rule */
+#define WARDLATCH_NOPLAN 10u     /* some slot can be no region, or there are too few regions */
 #define WARDLATCH_ROOM 11u       /* lent buffer too small */
-#define WARDLATCH_DIFFERS 12u    /* the plan grants other rights than the domain */
+#define WARDLATCH_DIFFERS 12u    /* the plan and the domain give different rights */
 
 /* Limits. */
 #define WARDLATCH_THREADS 64u
@@ -47,7 +48,7 @@ extern "C" {
 /* The state: three tables that the caller lends, of just these lengths. All zero is a state too: nothing lives, so nothing may be done.
  *   objects  for handle h at 2h: type + 256 * flags; at 2h + 1: its permission word, bit t for thread t
  *   threads  for thread t at 3t: 0 dead, 1 user, 2 supervisor; its domain or 255; the handle of its thread object
- *   slots    for slot k of domain d at 3 * (16d + k): start, size, attr (1 read, 2 write, 4 execute); size 0 is free
+ *   slots    for slot k of domain d at 3 * (16d + k): start, size, attr (to read 1, to write 2, to execute 4, added up); size 0 is free
  * A domain alone is 48 words: those at slots + 48d, or any others of the same form. */
 #define WARDLATCH_OBJECT_NUMBERS 512u
 #define WARDLATCH_THREAD_NUMBERS 192u
@@ -60,11 +61,12 @@ extern "C" {
 #define WARDLATCH_IMAGE_MOST 5136u
 #define WARDLATCH_PLAN_MOST 32u
 
-/* Calls: op u8, caller u8, a u16, b u32, c u32, d u32, little-endian; unused fields are zero. From 16 on for supervisors only. */
+/* Calls (SPEC 7.1): a byte for the operation, one for the caller, two for a, four each for b, c and d, lowest byte first; unused fields are zero.
+ * From 16 on for supervisors only. */
 #define WARDLATCH_OP_VALIDATE 0u          /* a handle, b type, c mode: 0 must be initialised, -1 must not be, 1 either */
 #define WARDLATCH_OP_GRANT 1u             /* a handle, b target */
 #define WARDLATCH_OP_RELEASE 2u           /* a handle */
-#define WARDLATCH_OP_MEMORY_CHECK 3u      /* b address, c length, d 0 read or 1 write */
+#define WARDLATCH_OP_MEMORY_CHECK 3u      /* b first address, c length, d: 1 to write, else 0 */
 #define WARDLATCH_OP_EXIT 4u
 #define WARDLATCH_OP_CREATE_OBJECT 16u    /* a handle, b type */
 #define WARDLATCH_OP_DELETE_OBJECT 17u    /* a handle */
@@ -73,7 +75,7 @@ extern "C" {
 #define WARDLATCH_OP_UNINIT 20u           /* a handle */
 #define WARDLATCH_OP_RECYCLE 21u          /* a handle */
 #define WARDLATCH_OP_MAKE_PUBLIC 22u      /* a handle */
-#define WARDLATCH_OP_CREATE_THREAD 23u    /* a handle, b thread, c supervisor 0 or 1 */
+#define WARDLATCH_OP_CREATE_THREAD 23u    /* a handle, b thread, c: 1 for a supervisor, else 0 */
 #define WARDLATCH_OP_END_THREAD 24u       /* b thread */
 #define WARDLATCH_OP_INHERIT 25u          /* b parent, c child */
 #define WARDLATCH_OP_ASSIGN 26u           /* b thread, c domain or 255 */
@@ -105,11 +107,12 @@ extern "C" {
 /* ---- calls */
 
 /* One call. Tables that are no state: VALUE; then fewer than 16 bytes SHORT, more EINVAL; then the call's own answer.
- * value: the slot of an added or removed partition, else 0; where the memory check says EPERM of the address: the first address not covered. */
+ * value: the slot of an added or removed partition, else 0; where the memory check says EPERM of the address: the least that is not covered. */
 uint32_t wardlatch_call(uint64_t *objects, size_t objects_len, uint32_t *threads, size_t threads_len, uint32_t *slots, size_t slots_len,
                         const uint8_t *bytes, size_t bytes_len, uint32_t *value);
 
-/* A log of calls, one after the other; a last part under 16 bytes is a call too, SHORT. Tables that are no state: VALUE; out under two numbers a call: ROOM.
+/* A log of calls, one after the other; a last part of fewer than 16 bytes counts as one, SHORT.
+ * Tables that are no state: VALUE; out under two numbers a call: ROOM.
  * Else OK; out: code and value of each call in turn, what lies behind stays; answers: how many calls were answered. */
 uint32_t wardlatch_run(uint64_t *objects, size_t objects_len, uint32_t *threads, size_t threads_len, uint32_t *slots, size_t slots_len,
                        const uint8_t *log, size_t log_len, uint32_t *out, size_t out_len, size_t *answers);
@@ -127,8 +130,8 @@ uint32_t wardlatch_write(const uint64_t *objects, size_t objects_len, const uint
 
 /* ---- the MPU (PMSAv7): two words a region, RBAR and RASR */
 
-/* Plans a domain, one region per active slot. A domain that breaks a rule: VALUE; regions above 16: EINVAL; a slot that is no region, or more slots than regions:
- * NOPLAN; out too small: ROOM. words: the plan's words; what lies behind them stays. */
+/* Plans a domain, a region for each active slot. A domain that breaks a rule: VALUE; regions above 16: EINVAL;
+ * a slot that is no region, or more slots than regions: NOPLAN; out too small: ROOM. words: the plan's words; what lies behind them stays. */
 uint32_t wardlatch_plan(const uint32_t *domain, size_t domain_len, uint32_t regions, uint32_t *out, size_t out_len, uint32_t *words);
 
 /* Judges any plan: OK where it gives unprivileged code just the domain's rights at every address, else DIFFERS; an ill-formed plan or domain: VALUE. */
@@ -136,10 +139,11 @@ uint32_t wardlatch_check(const uint32_t *domain, size_t domain_len, const uint32
 
 /* ---- a domain by itself, taken literally; other than 48 words: VALUE */
 
-/* Adds a window to the lowest free slot. Invalid or overlapping an active slot: EINVAL; full: ENOSPC. attr is not judged. slot: where it stands. */
+/* Adds a window to the lowest free slot. One that is not valid, or overlaps an active slot: EINVAL; no slot free: ENOSPC.
+ * attr is not judged. slot: where it stands. */
 uint32_t wardlatch_domain_add(uint32_t *domain, size_t domain_len, uint32_t start, uint32_t size, uint32_t attr, uint32_t *slot);
 
-/* Makes the lowest slot with that start and size all zero. Size 0 or no match: ENOENT. slot: which it was. */
+/* Frees the lowest slot of that start and size: it is all zero then. Size 0, or no such slot: ENOENT. slot: which it was. */
 uint32_t wardlatch_domain_remove(uint32_t *domain, size_t domain_len, uint32_t start, uint32_t size, uint32_t *slot);
 
 /* The fields of a slot; zeros on a refusal. Index 16 and above: EINVAL; a free slot: ENOENT. */
@@ -151,10 +155,10 @@ uint32_t wardlatch_domain_has_free(const uint32_t *domain, size_t domain_len, ui
 /* value: 1 if an active slot holds the address, else 0. */
 uint32_t wardlatch_domain_contains(const uint32_t *domain, size_t domain_len, uint32_t addr, uint32_t *value);
 
-/* Whether size > 0 and start + size <= 4294967295; the sum does not wrap. */
+/* Whether a window is valid: its size is not 0, and its end, a sum that does not wrap, is at most 4294967295. */
 bool wardlatch_partition_valid(uint32_t start, uint32_t size);
 
-/* Whether each window's end exceeds the other's start. */
+/* Whether two windows overlap: each begins before the other ends. */
 bool wardlatch_partitions_overlap(uint32_t start, uint32_t size, uint32_t other_start, uint32_t other_size);
 
 /* ---- one object by itself, taken literally: its type, flags and permission word stand with the caller */
@@ -171,7 +175,7 @@ uint32_t wardlatch_recycle(uint8_t *flags, uint64_t *word, uint32_t tid);
 /* value: the thread's bit, 1 or 0. Thread 64 and above: EINVAL. */
 uint32_t wardlatch_has_perm(uint64_t word, uint32_t tid, uint32_t *value);
 
-/* Whether a supervisor, or public, or a thread below 64 whose bit is set. */
+/* Whether the thread has access (SPEC 4.14). */
 bool wardlatch_check_access(uint8_t flags, uint64_t word, uint32_t tid, bool supervisor);
 
 /* Type EBADF (expected 0 fits all), access EPERM, initialisation EINVAL (mode 0) or EADDRINUSE (mode -1); any other mode means either. */

@@ -1,6 +1,6 @@
 // Plain Rust for what `replay` does: baseline IMAGE < CALLS, one line `ANSWER VALUE` a call. The records and the functions on them are upstream's, with
 // the contracts stripped (bench/replay/strip): KernelObject with its [bool; 64], validate, check_access, grant_access, MemDomain. Around them stands what
-// upstream lacks and a benchmark needs: the image's records, sixteen bytes to a call, document 01's order of refusals, the memory check by windows as
+// upstream lacks and a benchmark needs: the image's records, sixteen bytes to a call, the order of refusals (docs/SPEC.md, 7), the memory check by windows as
 // the latch has it, and output in one buffer. Only validate, grant and memory check are there; another operation ends the program.
 // It is meant to be hard to beat: arrays of fixed length, so that few indices are tested; big reads and writes; digits written by hand, since
 // `writeln!` takes longer than a call.
@@ -31,7 +31,7 @@ struct State { objects: [KernelObject; HANDLES], threads: [Thread; THREADS], dom
 
 struct Call { op: u8, caller: u8, a: u16, b: u32, c: u32, d: u32 }
 
-// Document 01's numbers.
+// The numbers of SPEC 1.1.
 #[derive(Clone, Copy)]
 struct Answer { code: u32, value: u32 }
 

@@ -1,5 +1,5 @@
 // Writes the benchmark's input: make IMAGE LOG CALLS SEED. The state and the calls are those of bench/calls (seeded.rs); here they stand in
-// document 01's image and as sixteen bytes a call.
+// an image (docs/SPEC.md, 9) and as sixteen bytes a call.
 use std::fs::{write, File};
 use std::io::{BufWriter, Write};
 

@@ -1,5 +1,5 @@
-// What upstream's values are in document 01's: types by number, answers, and a record with its flags and its word. It stands beside upstream's modules as
-// bench/replay/strip leaves them; the benchmark's baseline and tests/oracle use it.
+// What upstream's values are here (docs/SPEC.md, 1 and 2): types by number, answers, and a record with its flags and its word. It stands beside
+// upstream's modules as bench/replay/strip leaves them; the benchmark's baseline and tests/oracle use it.
 use crate::error;
 use crate::userspace::{KernelObject, ObjType};
 

@@ -9,10 +9,10 @@ How the log is made (seeded, SEED below): six sound states are written here by h
 fields from the edges (`draw`), and the model says which refusals hold of a call, each judged for itself and not up to the first one. Of each pair of
 refusals the call is kept in which the pair's earlier one is the first that holds and as few others hold as were found. What is kept is played as
 single calls and again as logs, and each refusal once more on a state that breaks a rule. With them go, per operation, calls that are answered OK, the
-state written back after each; before them document 01's own edges, logs and buffers of all sorts of lengths, each rule broken by itself, each field of a
+state written back after each; before them SPEC's own edges, logs and buffers of all sorts of lengths, each rule broken by itself, each field of a
 good call set to numbers around its range's end, and walks, where calls build on each other. `make` has the order.
 
-The model is written from document 01 and READINGS 1 to 15 and 31 and shares nothing with the crates: an object's rights are a table of 64 yes/no
+The model is of docs/SPEC.md, 5 to 7, and shares nothing with the crates: an object's rights are a table of 64 yes/no
 entries, threads are records or None, and a memory check walks a sorted list of windows.
 
 Answers that an operation can reach, beside VALUE (a state that breaks a rule) and SHORT (fewer bytes): see REACHABLE. EINVAL and EPERM are open to
@@ -143,7 +143,7 @@ def domain_sound(slots):
 
 
 def read(objects, threads, slots):
-    """The state that three tables stand for, or None where one of the rules of reading 15 is broken."""
+    """The state that three tables stand for, or None where one of the rules (SPEC 6) is broken."""
     if (len(objects), len(threads), len(slots)) != (512, 192, 384):
         return None
     s = State()
@@ -180,7 +180,7 @@ def row(bs):
 
 
 def fields_ok(op, a, b, c, d):
-    """Every field that is no handle: its range, or zero where it is unused (readings 1, 2, 7, 8)."""
+    """Every field that is no handle: its range, or zero where it is unused (SPEC 7.12)."""
     if op == 0:
         return b <= 15 and c in (0, 1, LAST) and d == 0
     if op in (1, 18):
@@ -696,7 +696,7 @@ def play_broken(w, s):
 
 
 def play_edges(w, r, s):
-    """What document 01 names: threads 63 and 64, 0xFFFFFFF0 with 15 and 16, remove (0, 0), a check across neighbours; and lengths of bytes, logs and `out`."""
+    """SPEC's own edges: grant to 63 and 64, a size at its limit and above, remove of size 0, a check across neighbours; lengths of bytes, logs and `out`."""
     w.load(s.tables())
     for bs in (pack(1, 0, 254, 63), pack(1, 0, 254, 64), pack(27, 0, 4, LAST - 15, 15, 3), pack(27, 0, 5, LAST - 15, 16, 3), pack(28, 0, 0),
                pack(3, 1, 0, 0x1000, 0x2800, 0), pack(3, 1, 0, 0x1000, 0x2801, 0), pack(3, 1, 0, 0x1FFF, 0x1001, 1), pack(3, 1, 0, 0x1FFF, 0x1002, 1),

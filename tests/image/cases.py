@@ -4,8 +4,8 @@
     tests/image/cases.py --write    writes crates/try_image/stdin and stdout
     tests/image/cases.py --check    compares the stored files with what it would write
 
-Seeded (SEED below), so both files are the same each time. The answers are worked out here by a model of document 01's image that shares nothing with
-the Rattle code: an image is taken apart into records and each of the paper's sentences is asked of them (the Rattle reader judges tables, writes them
+Seeded (SEED below), so both files are the same each time. The answers are worked out here by a model of docs/SPEC.md, 9, that shares nothing with
+the Rattle code: an image is taken apart into records and each of SPEC's sentences is asked of them (the Rattle reader judges tables, writes them
 once more and compares). Good images first; from each come images with one thing wrong: every byte of the header, every reserved byte, every rule, every
 truncation around the limits, bytes behind; then states are written, with and without room, sound and not, and what was written is read back."""
 import os, random, struct, sys
@@ -67,7 +67,7 @@ class State:
 
 
 def opened(b):
-    """The answer to an image, and its state where that is OK: document 01's sentences in their order."""
+    """The answer to an image, and its state where that is OK: SPEC's sentences in their order."""
     if len(b) < 16:
         return SHORT, None
     if b[:8] != b'WLATCH01':

@@ -4,8 +4,8 @@
 Run in the repository:  python3 tests/mem_domain/cases.py         writes crates/try_mem_domain/stdin and stdout
                         python3 tests/mem_domain/cases.py --check  says whether the stored files are those
 
-The list is made from the seed below, so that it is the same at every run. The answers come from `Domain`, a model written from
-document 01 ("Answers", "Partition", "Domain") and not from the Rattle code; `rt check try_mem_domain` runs the program on
+The list is made from the seed below, so that it is the same at every run. The answers come from `Domain`, a model of
+docs/SPEC.md, 3, that has nothing from the Rattle code; `rt check try_mem_domain` runs the program on
 stdin and compares what it writes with stdout. A case is five little-endian 32-bit words: a number, then four arguments.
 
   0               a new domain
@@ -113,7 +113,7 @@ class List:
 
 
 def limits(t):
-    """Document 01's edge, and those beside it."""
+    """The edge of SPEC 3.4, and those beside it."""
     for start in (0, 1, 15, 0x80000000, 0xFFFFFFEF, 0xFFFFFFF0, 0xFFFFFFF1, TOP - 1, TOP):
         for size in (0, 1, 15, 16, 17, 0x7FFFFFFF, 0x80000000, TOP - 1, TOP):
             t.put(6, start, size, TOP - size, size)

@@ -1,4 +1,4 @@
-// Makes images and logs from a seed, and what document 01 says of them by the model (model.rs).
+// Makes images and logs from a seed, and what the model of docs/SPEC.md (model.rs) says of them.
 //
 //     generate SEED CASES CALLS OUT        writes CASES cases to OUT and prints what they met, a line each: `pair OP WHY CODE COUNT`, `damage KIND CODE COUNT`
 //     generate answer IMAGE < CALLS        what `replay` must print

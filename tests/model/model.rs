@@ -1,6 +1,6 @@
-// A second opinion on the latch: document 01's state, image and calls in plain Rust, written from the paper and its readings and not from the Rattle code.
-// It is meant to be read beside the paper: a handle is an Option, the permission word a table of 64 yes/no entries, an address range a walk over sorted
-// windows. Each answer comes with the reason that gave it, so that a test can see which sentence of the paper it met.
+// A second opinion on the latch: state, image and calls in plain Rust, written from what was asked for and not from the Rattle code.
+// It is meant to be read beside docs/SPEC.md, 5 to 9: a handle is an Option, the permission word a table of 64 yes/no entries, an address range a walk
+// over sorted windows. Each answer comes with the reason that gave it, so that a test can see which sentence of SPEC it met.
 
 pub const THREADS: usize = 64;
 pub const HANDLES: usize = 256;

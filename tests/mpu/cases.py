@@ -1,12 +1,12 @@
 #!/usr/bin/env python3
-"""Cases for the checker and the planner, and their answers by a model of document 01, "MPU".
+"""Cases for the checker and the planner, and their answers by a model of docs/SPEC.md, 10.
 
   cases.py stored          writes crates/try_mpu/stdin and crates/try_mpu/stdout, which rt check and rt ci compare
   cases.py compare PROGRAM [COUNT]
                            feeds COUNT (120000) seeded cases to PROGRAM (target/bin/try_mpu) and compares each answer;
                            the last line is 'N passed, M failed'
 
-The model shares nothing with the crates: it reads document 01 and READINGS.md only, and asks at each edge of each slot and
+The model shares nothing with the crates: it is written from what was asked for alone, and asks at each edge of each slot and
 region, one below it, one above it, and at the last address. Python 3's standard library alone; seed 20261115.
 """
 import random, struct, subprocess, sys
@@ -17,7 +17,7 @@ LAST = 0xFFFFFFFF
 
 
 def sound(slots, count):
-    """The rules of a domain record: readings 15 and 19."""
+    """The rules of a domain record: SPEC 3.32 and 3.33."""
     active = [s for s in slots if s[1] != 0]
     for start, size, attr in slots:
         if size == 0 and (start, attr) != (0, 0):
@@ -155,7 +155,7 @@ MANY = [(0x10000 * (k + 1), 32 << (k % 12), (1, 3, 5, 7)[k % 4]) for k in range(
 
 
 def stored():
-    """Named cases: document 01's own, then the limits of each field."""
+    """Named cases: those of SPEC 10.38, then the limits of each field."""
     three = words_of(THREE)
     yield checked(THREE, three)
     less = list(three)

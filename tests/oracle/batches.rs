@@ -153,7 +153,7 @@ impl Board {
         self.lines += &line;
     }
 
-    // A change sets upstream's count one up or down; document 01's is set anew from the slots, which differs where the count was wrong before.
+    // A change sets upstream's count one up or down; ours (docs/SPEC.md, 3.19) is worked out from the slots, which differs where the count was wrong before.
     fn change(&mut self, t: &mut Tally, op: u32, x: [u32; 4]) -> String {
         let was = self.d;
         let (name, (code, value)) = if op == 3 {

@@ -1,6 +1,6 @@
 // The domain functions that the firmware's library exports, against upstream's on the same slots: answer, value and all 48 words after each question. A domain is
 // taken literally here, so slots may overlap, reach past the last address, or be free with a start or attributes left.
-// The words carry no count, and upstream's record does: it is set from the slots, as document 01 says, and must be theirs again after each change.
+// The words carry no count, and upstream's record does: it is set from the slots (docs/SPEC.md, 12.2), and must be theirs again after each change.
 // Upstream's contracts demand sound slots, a count below 16 for add and above 0 for remove. Its bodies answer without that and are asked (docs/DIFFERENCES.md).
 use crate::batches::{active, around};
 use crate::mem_domain::{partition_valid_decide, partitions_overlap_decide, MemDomain, MemPartition};

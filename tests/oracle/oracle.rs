@@ -295,7 +295,7 @@ impl Step {
     }
 }
 
-// Upstream's remove, but for size 0: there it takes a free slot for a match, and document 01 says ENOENT.
+// Upstream's remove, but for size 0: there it takes a free slot for a match, and docs/SPEC.md, 3.17, says ENOENT.
 pub fn removed(t: &mut Tally, d: &mut MemDomain, start: u32, size: u32) -> (u32, u32) {
     let mut after = *d;
     let got = slot_answer(after.remove_partition(start, size));

@@ -4,8 +4,8 @@
     tests/tables/cases.py --write    writes crates/try_tables/stdin and stdout
     tests/tables/cases.py --check    compares the stored files with what it would write
 
-Seeded (SEED below), so both files are the same each time. The answers are worked out here by a model of document 01's rules and of the
-tables that shares nothing with the Rattle code: records are kept in Python lists, and the rules are written rule by rule. Good states are made
+Seeded (SEED below), so both files are the same each time. The answers are worked out here by a model of docs/SPEC.md, 5 and 6, the rules and the
+tables, that shares nothing with the Rattle code: records are kept in Python lists, and the rules are written rule by rule. Good states are made
 first; from each come states with one number changed, so that one rule is broken (or none: the model says)."""
 import os, random, struct, sys
 

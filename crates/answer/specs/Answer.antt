@@ -1,4 +1,4 @@
--- What the answers mean: document 01's table of numbers, and upstream's error.rs beside it.
+-- What the answers mean: the numbers of docs/SPEC.md, 1, and upstream's error.rs beside them.
 use Prim.Native.Nat.{ℕ}
 use mathlib.Core.Bool.{cond}
 use lib.IntN.{ℤ, pos, negℤ}
@@ -10,7 +10,7 @@ use Rattle.answer.specs.declared.Named.the-variants.{Is, Nothing}
 use Rattle.answer.specs.declared.Answer.{Answer}
 use Rattle.answer.specs.declared.Errno.{Errno}
 
--- the number of each name
+-- the number of each name (SPEC 1.1)
 abbrev pub numberOf : Code → ℕ
 numberOf Ok = 0
 numberOf Einval = 1
@@ -26,7 +26,7 @@ numberOf Noplan = 10
 numberOf Room = 11
 numberOf Differs = 12
 
--- the name of each number; from 13 on there is none
+-- the name of each number; from 13 on there is none (SPEC 1.2)
 unfoldable pub codeOf : ℕ → Named
 codeOf n =
     cond (eqb n 0) (Is Ok) (
@@ -43,7 +43,7 @@ codeOf n =
     cond (eqb n 11) (Is Room) (
     cond (eqb n 12) (Is Differs) (Nothing)))))))))))))
 
--- an answer with value 0; a refusal has it, and OK where there is nothing to tell
+-- an answer with value 0; a refusal has it, and OK where there is nothing to tell (SPEC 1.3)
 abbrev pub plain : ℕ → Answer
 plain n = record { code = n; value = 0 }
 
@@ -57,7 +57,7 @@ done = plain (numberOf Ok)
 abbrev pub known : ℤ → Errno
 known z = record { code = 0; value = z }
 
--- error.rs: OK 0, EINVAL -22, EPERM -1, EBADF -9, EADDRINUSE -112, ENOSPC -28, ENOENT -2; else EINVAL and 0
+-- SPEC 1.7, 1.8; error.rs: OK 0, EINVAL -22, EPERM -1, EBADF -9, EADDRINUSE -112, ENOSPC -28, ENOENT -2; else EINVAL and 0
 unfoldable pub errnoOf : ℕ → Errno
 errnoOf n =
     cond (eqb n 0) (known (pos 0)) (

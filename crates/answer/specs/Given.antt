@@ -1,4 +1,4 @@
--- For the theorems: which answers a function gives at all.
+-- For the theorems: which answers a function gives at all (docs/SPEC.md, 1.9 to 1.12).
 use Prim.Native.Nat.{ℕ}
 use mathlib.Core.Path.{_≡_}
 use mathlib.Core.Bool.{Bool, true, false, cond, _||_, false≢true}

@@ -1,4 +1,4 @@
-// The answers: document 01's thirteen numbers under their names, and the way back to upstream's error.rs.
+// The answers: the thirteen numbers of docs/SPEC.md, 1, under their names, and the way back to upstream's error.rs.
 // Every other crate answers with these numbers. What is promised: `number` and `code_of` are each other's inverse on
 // 0..12, and `to_errno` gives upstream's value for 0..6 and refuses every other number.
 ghost use mathlib.Core.Path.{_≡_};

@@ -1,4 +1,4 @@
--- What a change does to a table of numbers: record i is loaded, rewritten and stored, or each record is, one behind the other.
+-- What a change does to a table of numbers (docs/SPEC.md, 7.95): record i is loaded, rewritten and stored, or each record is, one behind the other.
 use Prim.Native.Nat.{ℕ, zero, suc, _%_}
 use mathlib.Core.Bool.{cond}
 use mathlib.Core.List.{List}

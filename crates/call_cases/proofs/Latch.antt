@@ -1,5 +1,5 @@
--- Two calls that no latch with one answer can meet, over any state: document 01, "What every promise must fix". And a memory check across two
--- neighbouring partitions, over any state.
+-- Two calls that no latch with one answer can meet, over any state: docs/SPEC.md, 7.30 and 7.31. And a memory check from one slot into the next,
+-- over any state: SPEC 7.49.
 use Prim.Native.Nat.{ℕ, _+_, _≤_, _<_}
 use native.Mathlib.Decide.{decLt}
 use native.Mathlib.Omega.{arith}
@@ -57,7 +57,7 @@ unfolding isPrivileged
 ok-done s c o p f e =
     answer-is (judge s c) 0 0 e (ok-value s c e (λ q. false≢true (sym f ∙ ap isPrivileged (sym p ∙ q))) (λ q. false≢true (sym f ∙ ap isPrivileged (sym p ∙ q))))
 
--- a latch that always refuses fails here: a live supervisor's validate of a taken handle with type Any and mode 1 is OK
+-- a latch with refusals alone fails here (SPEC 7.30)
 pub always-refusing-fails :
     (s : State) (t h : ℕ) → t < THREADS → supervisor s t ≡ true → h < HANDLES → typeOf s h ≢ 0 → judge s (asksFor t h 0 1) ≡ done
 unfolding access isPrivileged
@@ -81,7 +81,7 @@ always-refusing-fails s t h b v k y =
     rules-lives : (n : ℕ) → eqb n 2 ≡ true → not (eqb n 0) ≡ true
     rules-lives n e = ap not (ne-eqb n 0 (λ z. omega (arith, eqb-true n 2 e)))
 
--- a live user without its bit on a taken object that is not public
+-- a live user, and a taken object that is not public and lacks the user's bit (SPEC 7.31)
 pub record Shut (s : State) (t h : ℕ) : Type 0 where
   pub number : t < THREADS
   pub lives : live s t ≡ true
@@ -125,11 +125,11 @@ module _ (s : State) (t h : ℕ) (g : Shut s t h) where
       fields : wellFormed validate (asksFor t h e m) ≡ true → Mode m
       fields w = fields-iff validate (asksFor t h e m) .0 w .1 .0
 
-  -- a latch that always says OK fails here: the same call is EPERM
+  -- a latch with OK alone fails here: the same call is EPERM
   pub always-ok-fails : judge s (asksFor t h 0 1) ≡ refused Eperm
   always-ok-fails = shut-refused 0 1 (lit< tt) (inl refl) (inr (inl refl))
 
--- ---- a memory check across two neighbouring partitions
+-- ---- a memory check from one slot into the next (SPEC 7.49)
 
 -- slot k begins where slot j ends, and both give the right
 pub record Neighbours (ps : List MemPartition) (write : Bool) (j k : ℕ) : Type 0 where

@@ -264,7 +264,7 @@ module _ (s : State) (c : Call) (k : Keeps s) (e : judge s c .code ≡ 0) where
       (object-one k c (sup revoke) (c .a) (λ x. revoked x (c .b) .object) (BitIs false (c .b)) refl refl refl (g .handle)
       (revoked-is (object s (c .a)) (c .b) (g .target)))
 
-  -- create makes the leaf's new object; delete makes the handle free
+  -- create makes the leaf's new object; after delete the handle is free
   pub create-does : opOf (c .op) ≡ sup create → OneObject s (after s c) (c .a) (λ x y. y ≡ newObject (c .b))
   unfolding objectChange threadChange domainChange
   create-does o =

@@ -8,7 +8,7 @@ use lib.Dec.{eqb}
 use borrow.Author.Tests.{eq-eqb, ne-eqb}
 use Rattle.decoding.specs.Calls.{create, delete, revoke, init, uninit, recycle, publish, thread, end, inherit, assign, add, remove, Op, validate, grant, release, check, exit, sup, unknown, opOf}
 
--- document 01's numbers; 29 stands for none
+-- the number of each operation (docs/SPEC.md, 7.2 and 7.3); 29 stands for none
 unfoldable pub opNumber : Op → ℕ
 opNumber validate = 0
 opNumber grant = 1

@@ -1,5 +1,5 @@
 -- Each of the eighteen operations: OK exactly when its conditions hold. The conditions stand in one record by their names, so that a reader can hold
--- them against document 01; proofs/Conditions.antt has the proof for all of them.
+-- them against docs/SPEC.md, 7.26 to 7.87; proofs/Conditions.antt has the proof for all of them.
 use Prim.Native.Nat.{_+_, _≤_, _<_}
 use mathlib.Core.Path.{_≡_, refl, subst}
 use mathlib.Core.Logic.{_↔_, _≢_}
@@ -146,7 +146,7 @@ release-ok-when s c o g =
       rule = g .access;
     })
 
--- the range has a length and ends in 32 bits, and for all but supervisors every byte of it lies in an active slot of the caller's domain with that right
+-- the range has a length and ends in 32 bits, and for all but supervisors every byte of it is covered (SPEC 7.41 to 7.44)
 pub record CheckOk (s : State) (c : Call) : Type 0 where
   pub caller : c .caller < THREADS
   pub lives : live s (c .caller) ≡ true
@@ -538,7 +538,7 @@ inherit-ok-when s c o g =
       rule = (g .parent-lives, g .child-lives);
     })
 
--- a live thread and a domain, or 255 for none
+-- a live thread, and a domain or the 255 that stands for none
 pub record AssignOk (s : State) (c : Call) : Type 0 where
   pub caller : c .caller < THREADS
   pub lives : live s (c .caller) ≡ true

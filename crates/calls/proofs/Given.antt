@@ -1,4 +1,4 @@
--- Every answer is one of document 01's table, over the promises of `call` and `run` themselves: which ones there are at all.
+-- Which answers there are at all (docs/SPEC.md, 1.9 and 1.10), over the promises of `call` and `run` themselves.
 use Prim.Native.Nat.{ℕ, _*_}
 use mathlib.Core.Path.{_≡_, refl, ap, sym}
 use mathlib.Core.Bool.{true}

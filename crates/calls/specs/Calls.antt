@@ -1,5 +1,5 @@
 -- What a call and a run over a log leave and answer, of tables of any length and content: VALUE where they are no state that keeps the rules.
--- The meaning of one call is in judging/specs; here it is carried to the tables of numbers and folded over a log.
+-- The meaning of one call is in judging/specs; here it is carried to the tables of numbers and folded over a log (docs/SPEC.md, 7.5, 7.22 and 7.88 to 7.93).
 use Prim.Native.Nat.{ℕ, zero, suc, _+_, _*_, _/_, _%_}
 use mathlib.Core.Path.{_≡_}
 use mathlib.Core.Bool.{cond}
@@ -28,11 +28,11 @@ module _ (os ts ss : List ℕ) (after : State → State) where
 
 -- ---- one call
 
--- VALUE before all else
+-- VALUE before all else (SPEC 7.5)
 unfoldable pub answered : List ℕ → List ℕ → List ℕ → List ℕ → Answer
 answered os ts ss bs = cond (keepsTest os ts ss) (heard (stateOf os ts ss) bs) (refused Value)
 
--- the answer and the three tables
+-- the answer and the three tables (SPEC 7.22)
 pub record Called (os ts ss bs : List ℕ) (r : Answer) (os′ ts′ ss′ : List ℕ) : Type 0 where
   pub answer : r ≡ answered os ts ss bs
   pub objects : os′ ≡ objectsLeft os ts ss (λ s. left s bs)
@@ -63,7 +63,7 @@ unfoldable pub answersTo : State → List ℕ → List ℕ → ℕ → List ℕ
 answersTo s log out zero = out
 answersTo s log out (suc k) = putAnswer (answersTo s log out k) k (heard (ranTo s log k) (partAt log k))
 
--- bad state VALUE, then too little room ROOM; else OK with the number of answers
+-- bad state VALUE, then too little room ROOM; else OK with the number of answers (SPEC 7.89)
 abbrev pub ranWith : ℕ → ℕ → Ran
 ranWith code n = record { code = code; answers = n }
 
@@ -77,7 +77,7 @@ runAnswer os ts ss log out =
 abbrev pub ranParts : List ℕ → List ℕ → List ℕ → List ℕ → List ℕ → ℕ
 ranParts os ts ss log out = runAnswer os ts ss log out .answers
 
--- what a run answers, and every lent slice after it
+-- what a run answers, and every lent slice after it (SPEC 7.92, 7.93)
 pub record Run (os ts ss log out : List ℕ) (r : Ran) (os′ ts′ ss′ out′ : List ℕ) : Type 0 where
   pub answer : r ≡ runAnswer os ts ss log out
   pub objects : os′ ≡ objectsLeft os ts ss (λ s. ranTo s log (ranParts os ts ss log out))

@@ -1,4 +1,4 @@
-// Judging a call: document 01's answer to it in a state. Nothing is changed here.
+// Judging a call: the answer that docs/SPEC.md, 7, has for it in a state. Nothing is changed here.
 // Promised, for any tables and any call: the answer of the order in judging/specs/Judge.antt; VALUE for tables of other lengths than a state's.
 // Calls that are open to all come first and are judged by one function each: they are what a pump does all day.
 ghost use mathlib.Core.Path.{_≡_};

@@ -1,4 +1,4 @@
-// The latch: one call, or a log of them, on three lent tables. Whatever the tables, the bytes and the log are, there is an answer of document 01's table.
+// The latch: one call, or a log of them, on three lent tables. Whatever the tables, the bytes and the log are, there is an answer (docs/SPEC.md, 7).
 // `call` and `run` are all that another crate can call: what judges a call and what applies it are private modules, and `call` and `run` come to them only
 // once the state was found to keep the rules.
 // Promised: `call` answers and leaves what judging/specs says; `run` is the fold of it, with the state judged once; a refusal changes nothing.

@@ -1,4 +1,4 @@
--- A call: its sixteen bytes, and which of the eighteen operations its number names. Document 01, "Calls".
+-- A call: its sixteen bytes, and which of the eighteen operations its number names (docs/SPEC.md, 7.1 to 7.4).
 use Prim.Native.Nat.{ℕ, _+_, _*_}
 use mathlib.Core.Bool.{cond}
 use mathlib.Core.List.{List}
@@ -12,7 +12,7 @@ use Rattle.decoding.specs.declared.Call.{Call}
 abbrev pub wordAt : List ℕ → ℕ → ℕ
 wordAt bs i = getD bs i 0 + getD bs (i + 1) 0 * 256 + getD bs (i + 2) 0 * 65536 + getD bs (i + 3) 0 * 16777216
 
--- op u8, caller u8, a u16, b, c, d u32
+-- which bytes are which field (SPEC 7.1)
 abbrev pub callOf : List ℕ → Call
 callOf bs =
     record {
@@ -35,7 +35,7 @@ pub data Op : Type 0 where
   sup : Sup → Op
   unknown : Op
 
--- 0 to 4 are open to all, 16 to 28 are supervisors'
+-- 0 to 4 are open to all, 16 to 28 are supervisors' (SPEC 7.2 to 7.4)
 unfoldable pub opOf : ℕ → Op
 opOf n =
     cond (eqb n 0) validate (

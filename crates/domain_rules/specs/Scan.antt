@@ -1,4 +1,4 @@
--- A test that every number below n passes.
+-- A test that every number below n passes (docs/SPEC.md, 2.15).
 use Prim.Native.Nat.{ℕ, zero, suc}
 use mathlib.Core.Bool.{Bool, true, _&&_}
 

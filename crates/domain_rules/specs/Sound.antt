@@ -1,5 +1,5 @@
--- The rules of a domain's slots and of its record: document 01, "Calls" (attr), "Partition", "Domain", "Image" (free slots), and readings 15 and
--- 19. Slots are a list of any origin, so that a state's tables can be judged by the same rules.
+-- The rules of a domain's slots and of its record: docs/SPEC.md, 2.14 and 3.32 to 3.34.
+-- Slots are a list of any origin, so that a state's tables can be judged by the same rules.
 use Prim.Native.Nat.{ℕ}
 use mathlib.Core.Path.{_≡_}
 use mathlib.Core.Bool.{Bool, true, false, cond, not, _&&_, _||_}
@@ -12,11 +12,11 @@ use Rattle.mem_partition.specs.declared.MemPartition.{MemPartition}
 use Rattle.mem_domain.specs.declared.MemDomain.{MemDomain}
 use Rattle.domain_rules.specs.Scan.{allTo}
 
--- attr: 1 read, 2 write, 4 execute; only 1, 3, 5, 7 are allowed
+-- the allowed attrs (SPEC 2.14): each has the right to read
 unfoldable pub attrOk : ℕ → Bool
 attrOk attr = eqb attr 1 || (eqb attr 3 || (eqb attr 5 || eqb attr 7))
 
--- in plain statements: sixteen slots; an active one is valid with an allowed attr, no two active ones overlap, a free one is all zero
+-- in plain statements (SPEC 3.32): sixteen slots; an active one is valid with an allowed attr, no two active ones overlap, a free one is all zero
 pub record SlotsKeep (l : List MemPartition) : Type 0 where
   pub size : length l ≡ slots
   pub valid : (k : ℕ) → isActive (slotAt l k) ≡ true → isValid (slotAt l k) ≡ true
@@ -44,6 +44,6 @@ slotSound l k = slotOk (slotAt l k) && apartTo l k k
 unfoldable pub slotsSound : List MemPartition → Bool
 slotsSound l = allTo (slotSound l) slots
 
--- the slots keep the rules, and the count equals the active slots
+-- the slots keep the rules, and the count is how many of them are active (SPEC 3.33)
 unfoldable pub domainSound : MemDomain → Bool
 domainSound d = slotsSound (d .partitions) && eqb (d .«num_partitions») (activeCount (d .partitions))

@@ -1,5 +1,5 @@
 // The rules of a memory domain, and the function that judges a record by them. The domain leaf takes any record literally; what plans, checks and
-// stores domains answers VALUE by this. Promised: `is_sound` says true exactly when document 01's rules hold (proofs/Sound.antt). The tests of one slot
+// stores domains answers VALUE by this. Promised: `is_sound` says true exactly when the rules hold (docs/SPEC.md, 3.33). The tests of one slot
 // and of two are public too, for the pass over a whole table of domains, which copies no domain.
 ghost use mathlib.Core.Path.{_≡_};
 ghost use Prim.Native.Nat.{_<_};
@@ -97,7 +97,7 @@ fn slots_sound(domain: MemDomain) -> bool
     true
 }
 
-// Whether a domain record keeps every rule of document 01, its count among them.
+// Whether a domain record keeps every rule (SPEC 3.33), that of its count too.
 pub fn is_sound(domain: MemDomain) -> bool
     ensures { λ r. ⌜ r ≡ domainSound domain ⌝ }
 {

@@ -1,4 +1,4 @@
--- What the exported functions promise where the function below has a result that C has not: a domain lent as words, a part of the caller's slice.
+-- What the exported functions promise where the function below has a result that C has not: a domain lent as words, a part of a slice (docs/SPEC.md, 12).
 use Prim.Native.Nat.{ℕ, _*_}
 use mathlib.Core.Path.{_≡_}
 use mathlib.Core.Bool.{Bool, cond}
@@ -16,7 +16,7 @@ use Rattle.tables.specs.Table.{domainAt, putDomain}
 use Rattle.planner.specs.Planner.{planned, wordsAfter}
 use Rattle.image.specs.Read.{readCode, afterRead, totalOf, ReadIs}
 
--- ---- a domain as firmware lends it: sixteen slots of start, size, attr. Another number of words is no domain
+-- ---- a domain as firmware lends it: three words for each of sixteen slots. Another number of words is no domain (SPEC 12.2)
 
 unfoldable pub whole : List ℕ → Bool
 whole ws = eqb (length ws) (3 * slots)
@@ -37,7 +37,7 @@ said b = record { code = numberOf Ok; value = cond b 1 0 }
 abbrev pub told : Changed → Answer
 told c = record { code = c .code; value = c .value }
 
--- add and remove: OK stores the domain, a refusal changes nothing
+-- add and remove: OK stores the domain, a refusal leaves the words (SPEC 12.3)
 pub record Changes (ws : List ℕ) (c : Changed) (r : Answer) (ws′ : List ℕ) : Type 0 where
   pub answer : r ≡ judged ws (told c)
   pub words : ws′ ≡ cond (eqb (judged ws (told c) .code) (numberOf Ok)) (putDomain ws 0 (c .domain)) ws
@@ -51,7 +51,7 @@ pub record Plans (ws : List ℕ) (regions : ℕ) (before : List ℕ) (r : Answer
   pub answer : r ≡ judged ws (planned (domainIn ws) regions (length before))
   pub words : after ≡ cond (whole ws) (wordsAfter (domainIn ws) regions before) before
 
--- ---- the reader: the part behind the image is told by its length, 0 on a refusal
+-- ---- the reader: the part behind the image is told by its length, 0 on a refusal (SPEC 12.7)
 
 abbrev pub behind : List ℕ → List ℕ → List ℕ → List ℕ → List ℕ
 behind b os ts ss = afterRead (readCode b os ts ss) (drop (totalOf b) b) []

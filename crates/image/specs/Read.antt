@@ -1,5 +1,5 @@
--- What is read off an image, by the layout that `encode` writes; which images are accepted; and what the reader promises. Document 01, "Image", with
--- readings 16 and 17. That the paper's own sentences hold of an accepted image, and that no other is refused, is image_laws/proofs/Document.antt.
+-- What is read off an image, by the layout that `encode` writes; which images are accepted; and what the reader promises: docs/SPEC.md, 9.9 to
+-- 9.24. That what SPEC 9.21 asks of the bytes holds of an accepted image, and that no other is refused, is image_laws/proofs/Document.antt.
 use Prim.Native.Nat.{ℕ, zero, suc, _+_, _*_}
 use mathlib.Core.Path.{_≡_}
 use mathlib.Core.Bool.{Bool, true, false, cond, not, _&&_}
@@ -40,14 +40,14 @@ domainsPlace b = threadsPlace b + 8 * threadCount b
 
 -- ---- the tables that are read off
 
--- the two numbers of object h: type, flags and the u16 behind them, and the word
+-- the two numbers of object h: its first four bytes, which are the head, and the word (SPEC 9.5, 9.15)
 unfoldable pub objectIn : List ℕ → ℕ → List ℕ
 objectIn b h = le 4 b (16 + 12 * h) ∷ le 8 b (20 + 12 * h) ∷ []
 
 unfoldable pub readObjects : List ℕ → List ℕ
 readObjects b = sets (replicate (2 * HANDLES) 0) 0 (cat (objectIn b) (objectCount b))
 
--- the record at a place goes to its thread, an id from 64 on nowhere; the zeros behind domain and handle are read with them
+-- the record at a place goes to its thread, a number from 64 on nowhere; the zeros behind domain and handle are read with them (SPEC 9.16 to 9.18)
 unfoldable pub enter : List ℕ → ℕ → List ℕ → List ℕ
 enter b at ts =
     cond (ltb (le 1 b at) THREADS) (sets ts (3 * le 1 b at) ((le 1 b (at + 1) + 1) ∷ le 2 b (at + 2) ∷ le 4 b (at + 4) ∷ [])) ts
@@ -84,7 +84,7 @@ eqs (x ∷ xs) (y ∷ ys) = eqb x y && eqs xs ys
 unfoldable pub fieldsOk : ℕ → ℕ → ℕ → ℕ → Bool
 fieldsOk m n d t = leb m HANDLES && (leb n THREADS && (eqb d DOMAINS && eqb t (total m n)))
 
--- the header's refusals in their order; behind a good header, what the contents answer
+-- the header's refusals in their order (SPEC 9.10 to 9.14); behind a good header, what the contents answer
 unfoldable pub headed : List ℕ → ℕ → ℕ
 headed b contents =
     cond (ltb (length b) 16) (numberOf Short) (
@@ -93,7 +93,7 @@ headed b contents =
     cond (ltb (length b) (totalOf b)) (numberOf Short) (
     contents))))
 
--- the tables keep the rules, and the first t bytes are just their image
+-- the tables keep the rules, and the first t bytes are just their image (SPEC 9.20)
 unfoldable pub isImage : List ℕ → ℕ → List ℕ → List ℕ → List ℕ → Bool
 isImage b t os ts ss = keepsTest os ts ss && eqs (encode os ts ss) (take t b)
 
@@ -103,7 +103,7 @@ accepted b = isImage b (totalOf b) (readObjects b) (readThreads b) (readSlots b)
 unfoldable pub imageCode : List ℕ → ℕ
 imageCode b = headed b (cond (accepted b) (numberOf Ok) (numberOf Value))
 
--- tables of other lengths than a state's are VALUE before all else
+-- tables of other lengths than a state's are VALUE before all else (SPEC 9.9)
 unfoldable pub readCode : List ℕ → List ℕ → List ℕ → List ℕ → ℕ
 readCode b os ts ss = cond (sized (length os) (length ts) (length ss)) (imageCode b) (numberOf Value)
 
@@ -111,7 +111,7 @@ readCode b os ts ss = cond (sized (length os) (length ts) (length ss)) (imageCod
 abbrev pub afterRead : ℕ → List ℕ → List ℕ → List ℕ
 afterRead code new old = cond (eqb code (numberOf Ok)) new old
 
--- what the reader promises: its answer, the part of the buffer that it hands back, and the three tables
+-- what the reader promises: its answer, what it hands back of the buffer, and the three tables (SPEC 9.23, 9.24)
 pub record ReadIs (b os ts ss os′ ts′ ss′ part : List ℕ) (code : ℕ) : Type 0 where
   pub answer : code ≡ readCode b os ts ss
   pub rest : part ≡ afterRead (readCode b os ts ss) (drop (totalOf b) b) []

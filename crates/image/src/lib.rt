@@ -1,4 +1,4 @@
-// The image's reader: document 01's bytes into three lent tables, and the part of the caller's slice behind the image.
+// The image's reader: the bytes of docs/SPEC.md, 9, into three lent tables, and back what lies behind the image.
 // The tables are read off into scratch, judged by the rules, written once more and compared with the bytes, and only then copied: so an image is
 // accepted exactly when it is what the writer writes of a state that keeps the rules, and a refusal changes nothing.
 ghost use mathlib.Core.Path.{_≡_};
@@ -94,7 +94,7 @@ fn get_domain(rec: &[u8], slots: &mut [u32])
     }
 }
 
-// Each domain's record is lent on, as a part that starts in the image's middle.
+// Each domain is read from a part of the image, which is lent on.
 fn get_domains(image: &[u8], at: usize, slots: &mut [u32])
     requires { ⌜ (at + 1536 ≤ length (now image)) × (length (now slots) ≡ 384) ⌝ }
     ensures { λ _. ⌜ now (slots .exit) ≡ domainsIn (now (image .entry)) at ⌝ }

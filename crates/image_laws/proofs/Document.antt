@@ -1,5 +1,5 @@
--- Which images are accepted, twice: those that begin with the image of a state that keeps the rules (`Starts`), and those of which each of document 01's
--- sentences holds (`Document`). Both say the same as the answer OK.
+-- Which images are accepted, twice: those that begin with the image of a state that keeps the rules (`Starts`), and those of which each sentence
+-- of docs/SPEC.md, section 9, about their bytes holds (`Document`). Both say the same as the answer OK.
 use mathlib.Core.Path.{_≡_, refl, sym, ap, _∙_}
 use Prim.Native.Nat.{ℕ, zero, suc, _+_, _*_, _%_, _≤_, _<_, _-_}
 use native.Mathlib.Nat.{le-refl}
@@ -62,24 +62,24 @@ abbrev pub threadPlace : List ℕ → ℕ → ℕ
 threadPlace b i = threadsPlace b + 8 * i
 
 pub record Document (b : List ℕ) : Type 0 where
-  -- "Header 16 bytes: ASCII WLATCH01, object count u16, thread count u8, domain count u8 (must be 8), total length u32"
+  -- the header (SPEC 9.2, 9.3 and 9.10 to 9.12)
   pub long : 16 ≤ length b
   pub magic-is : take 8 b ≡ magic
   pub objects : objectCount b ≤ HANDLES
   pub threads : threadCount b ≤ THREADS
   pub domains : domainCount b ≡ DOMAINS
-  -- "Total length equals the sum", and the buffer holds it
+  -- the total length is that of the parts together (SPEC 9.4), and the buffer holds it (SPEC 9.13)
   pub total-is : totalOf b ≡ 16 + 12 * objectCount b + 8 * threadCount b + 192 * DOMAINS
   pub whole : totalOf b ≤ length b
-  -- "type, flags, u16 zero, word u64; the last is not free"
+  -- the objects: their zeros, and the last is taken (SPEC 9.5, 9.21)
   pub object-zeros : (h : ℕ) → h < objectCount b → le 2 b (objectPlace h + 2) ≡ 0
   pub last-taken : (h : ℕ) → suc h ≡ objectCount b → le 1 b (objectPlace h) ≢ 0
-  -- "ids rising: id, supervisor, domain, zero, handle u16, u16 zero"
+  -- the threads: their numbers in rising order, and their zeros (SPEC 9.6, 9.21)
   pub ids : (i : ℕ) → i < threadCount b → le 1 b (threadPlace b i) < THREADS
   pub rising : (i j : ℕ) → i < j → j < threadCount b → le 1 b (threadPlace b i) < le 1 b (threadPlace b j)
   pub thread-zero : (i : ℕ) → i < threadCount b → le 1 b (threadPlace b i + 3) ≡ 0
   pub thread-zeros : (i : ℕ) → i < threadCount b → le 2 b (threadPlace b i + 6) ≡ 0
-  -- "Every rule above holds" for the state that is read off
+  -- the state that is read off keeps the rules of SPEC, section 6 (SPEC 9.21)
   pub rules : Keeps (stateOf (readObjects b) (readThreads b) (readSlots b))
 
 -- ---- from OK to the sentences
@@ -307,13 +307,13 @@ module _ (b : List ℕ) (d : Document b) (h : Below 256 b) where
       ok-image b (head-good b (objectCount b) (threadCount b) (d .objects) (d .threads) size hd)
       (is-image b (totalOf b) (readObjects b) (readThreads b) (readSlots b) document-sound written-again)
 
--- ---- both descriptions are the same
+-- ---- both descriptions are the same (SPEC 9.20, 9.21)
 
 -- a buffer of bytes is accepted exactly when it begins with the image of a state that keeps the rules
 pub exact : (b : List ℕ) → (imageCode b ≡ 0) ↔ Starts b
 exact b = (accepted-starts b, starts-accepted b)
 
--- and exactly when each of document 01's sentences holds
+-- and exactly when each sentence of SPEC section 9 about its bytes holds (SPEC 9.21)
 pub exact-document : (b : List ℕ) → Below 256 b → (imageCode b ≡ 0) ↔ Document b
 exact-document b h = (accepted-document b, λ d. document-accepted b d h)
 

@@ -1,4 +1,4 @@
--- The state that is read off an image, in the words of document 01's layout: which byte each field of each record is. `Document` asks that just this
+-- The state that is read off an image, by the layout of docs/SPEC.md, 9.5 to 9.7: which byte each field of each record is. `Document` asks that just this
 -- state keeps the rules.
 use mathlib.Core.Path.{_≡_, refl, ap, _∙_}
 use Prim.Native.Nat.{ℕ, _+_, _*_, _/_, _%_, _≤_, _<_}
@@ -32,7 +32,7 @@ two-bytes head word t f w e p q g =
     rw (a, c, m, g) refl
 
 module _ (b : List ℕ) (d : Document b) (h : Below 256 b) where
-  -- "type, flags, u16 zero, word u64"
+  -- an object (SPEC 9.5)
   pub object-read :
       (k : ℕ) → k < objectCount b →
       object (readOff b) k ≡ record { «obj_type» = le 1 b (objectPlace k); flags = le 1 b (objectPlace k + 1); word = le 8 b (objectPlace k + 4) }
@@ -53,7 +53,7 @@ module _ (b : List ℕ) (d : Document b) (h : Below 256 b) where
       let z = free-is b d h k p in
       object-is (document-sound b d h) k ∙ rw (z, free-word (document-sound b d h) k z) refl
 
-  -- "id, supervisor, domain, zero, handle u16, u16 zero"
+  -- a thread (SPEC 9.6, 9.16)
   pub thread-read :
       (i : ℕ) → i < threadCount b →
       thread (readOff b) (le 1 b (threadPlace b i)) ≡ record { role = le 1 b (threadPlace b i + 1) + 1; domain = le 1 b (threadPlace b i + 2); handle = le 2 b (threadPlace b i + 4) }
@@ -75,7 +75,7 @@ module _ (b : List ℕ) (d : Document b) (h : Below 256 b) where
       thread-is (document-sound b d h) t
       ∙ rw (threads-read b d h) (none-kept b h (threadsPlace b) (zeros 192) (zeros-long 192) (zeros-at 192) threadOf (threadCount b) (d .ids) t o)
 
-  -- "Domains of 192 bytes: 16 slots of start, size, attr"
+  -- a slot (SPEC 9.7)
   pub slot-read :
       (n k : ℕ) → n < DOMAINS → k < SLOTS →
       slotAt (domain (readOff b) n) k ≡ record { start = le 4 b (domainsPlace b + 192 * n + 12 * k); size = le 4 b (domainsPlace b + 192 * n + 12 * k + 4); attr = le 4 b (domainsPlace b + 192 * n + 12 * k + 8) }

@@ -57,7 +57,7 @@ module _ {os ts ss before after : List ℕ} {r : Answer} (w : Written os ts ss b
 -- ---- what the reader's answer says
 
 module _ {b os ts ss os′ ts′ ss′ part : List ℕ} {a : ℕ} (p : ReadIs b os ts ss os′ ts′ ss′ part a) where
-  -- a refusal changes nothing and hands back an empty part
+  -- a refusal leaves the tables and hands back an empty part
   pub refusal-keeps : (a ≡ 0 → ⊥) → (os′ ≡ os) × (ts′ ≡ ts) × (ss′ ≡ ss) × (part ≡ [])
   refusal-keeps n =
       let z : eqb (readCode b os ts ss) 0 ≡ false = ne-eqb (readCode b os ts ss) 0 (λ q. n (p .answer ∙ q)) in

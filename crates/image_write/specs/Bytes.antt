@@ -1,4 +1,4 @@
--- Numbers as bytes, the lower first: what writer and reader share.
+-- Numbers as bytes, the lower first: what writer and reader share (docs/SPEC.md, 2.7).
 use Prim.Native.Nat.{ℕ, zero, suc, _+_, _*_, _/_, _%_}
 use mathlib.Core.List.{List, [], _∷_}
 use lib.ListN.{take, drop}

@@ -1,4 +1,4 @@
-// The image's writer: a state that keeps the rules, as document 01's bytes, into a lent buffer.
+// The image's writer: a state that keeps the rules, as the bytes of docs/SPEC.md, 9, into a lent buffer.
 // `encode` (specs/Encode.antt) is the layout; the reader (crate `image`) holds itself to it by writing what it read once more.
 // Promised of `write`: VALUE for tables that break a rule, then ROOM, else the image and its length; what lies behind it stays.
 ghost use mathlib.Core.Path.{_≡_};
@@ -181,7 +181,7 @@ fn put_domain(rec: &mut [u8], slots: &[u32])
     }
 }
 
-// Each domain's record is lent on as a part of the buffer.
+// Each domain is written to a part of the buffer, which is lent on.
 fn put_domains(out: &mut [u8], at: usize, slots: &[u32])
     requires { ⌜ (at + 1536 ≤ length (now out)) × (length (now slots) ≡ 384) ⌝ }
     ensures { λ _. ⌜ now (out .exit) ≡ sets (now (out .entry)) at (domainsBytes (now (slots .entry))) ⌝ }

@@ -1,4 +1,4 @@
--- Memory rights of a thread: what its memory check of one byte goes by.
+-- Memory rights of a thread: what its memory check of one byte goes by (docs/SPEC.md, 8.22 to 8.24).
 use Prim.Native.Nat.{ℕ}
 use mathlib.Core.Path.{_≡_}
 use mathlib.Core.Bool.{Bool, false, cond, _&&_, _||_}

@@ -1,4 +1,4 @@
--- Runs of calls, and what thread t sees of one: its own calls, the accepted grants to it with the initialised flag that they reveal, and the others' exits.
+-- Runs of calls, and what thread t sees of one (docs/SPEC.md, 8.16 to 8.21): its own calls, the grants to it with the flag that they reveal, others' exits.
 use Prim.Native.Nat.{ℕ}
 use mathlib.Core.Path.{_≡_}
 use mathlib.Core.Bool.{Bool, true, false, cond}

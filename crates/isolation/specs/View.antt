@@ -1,5 +1,5 @@
--- A thread's view, as document 01 has it: "all types, public flags, which threads live and their handles, its own record and bits, initialised flags of
--- objects it can access, its own domain's slots". Each sentence says that two states are alike there; two states agree on the view when all do.
+-- A thread's view: docs/SPEC.md, 8.2 to 8.10, and what another's call may change of it, 8.14 and 8.15.
+-- For each sentence of SPEC 8.3 to 8.10 a definition says that two states are alike there; two states agree on the view when all do.
 use Prim.Native.Nat.{ℕ}
 use mathlib.Core.Path.{_≡_}
 use mathlib.Core.Logic.{_≢_}
@@ -13,7 +13,7 @@ use Rattle.judging.specs.Judge.{live, typeOf, mayUse}
 abbrev pub bitAt : State → ℕ → ℕ → Bool
 bitAt s h t = isSet (object s h .word) t
 
--- ---- the sentences
+-- ---- the sentences, in SPEC's order (8.3 to 8.10)
 
 abbrev pub SameTypes : State → State → Type 0
 SameTypes s₁ s₂ = (h : ℕ) → typeOf s₁ h ≡ typeOf s₂ h

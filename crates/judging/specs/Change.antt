@@ -1,4 +1,4 @@
--- What each call changes when it is answered OK: one of the three tables at most, but for a thread's end; and that a refusal changes nothing.
+-- What each call changes when it is answered OK: one of the three tables at most, but for a thread's end; a refusal changes nothing (docs/SPEC.md, 7.20 on).
 use Prim.Native.Nat.{ℕ, _%_}
 use mathlib.Core.Bool.{Bool, cond}
 use mathlib.Core.List.{List, [], _∷_, map}
@@ -27,7 +27,7 @@ enact z none l = l
 enact z (one i f) l = set l i (f (getD l i z))
 enact z (each f) l = map f l
 
--- the child gains the bit if the parent holds it
+-- where the parent's bit is set the child's becomes so (SPEC 7.77)
 unfoldable pub inherited : ℕ → ℕ → KernelObject → KernelObject
 inherited parent child o = cond (holds o parent) (granted o child .object) o
 
@@ -53,7 +53,7 @@ objectChange (sup add) c = none
 objectChange (sup remove) c = none
 objectChange unknown c = none
 
--- a new thread: user or supervisor, no domain, its handle
+-- a new thread (SPEC 7.71): user or supervisor, no domain, its handle
 abbrev pub born : Call → Thread
 born c = record { role = cond (eqb (c .c) 1) 2 1; domain = 255; handle = c .a }
 

@@ -1,4 +1,4 @@
--- What each call answers: document 01's order, with readings 1 to 14. A refusal is a test with its name; the first that holds is the answer.
+-- What each call answers: docs/SPEC.md, 7. A refusal is a test with its name; the first that holds is the answer (SPEC 7.7).
 use Prim.Native.Nat.{ℕ}
 use mathlib.Core.Bool.{Bool, true, false, cond, not, _&&_, _||_}
 use mathlib.Core.List.{List, []}
@@ -26,7 +26,7 @@ use Rattle.mem_check.specs.Memory.{memoryRule}
 use Rattle.decoding.specs.declared.Call.{Call}
 use Rattle.decoding.specs.Calls.{Sup, create, delete, revoke, init, uninit, recycle, publish, thread as newThread, end, inherit, assign, add, remove, Op, validate, grant, release, check, exit, sup, unknown, opOf, callOf}
 
--- ---- answers: OK returns 0, but add and remove return the slot; a refusal returns 0, but the memory check's walk the first address that is not covered
+-- ---- answers, with the values of SPEC 1.3 to 1.5: 0, but for the slot of add and remove and the address of the memory check's walk
 
 -- the first test that holds refuses, with the name beside it
 infixr 20 _⇒_⨾_
@@ -44,7 +44,7 @@ supervisor s t = isSupervisor (thread s t)
 abbrev pub typeOf : State → ℕ → ℕ
 typeOf s h = object s h .«obj_type»
 
--- thread t has access to object h: a supervisor, or public, or its bit
+-- thread t has access to object h (SPEC 7.24)
 abbrev pub mayUse : State → ℕ → ℕ → Bool
 mayUse s t h = access (object s h) t (supervisor s t)
 
@@ -52,11 +52,11 @@ mayUse s t h = access (object s h) t (supervisor s t)
 abbrev pub servesAt : State → ℕ → ℕ → Bool
 servesAt s h t = live s t && eqb (thread s t .handle) h
 
--- object h serves a live thread
+-- object h serves a live thread (SPEC 7.25)
 unfoldable pub serves : State → ℕ → Bool
 serves s h = anyTo (servesAt s h) THREADS
 
--- ---- numbers in range, unused fields zero; a handle is not judged here
+-- ---- each field in its range, or zero where it is unused; a handle is not judged here (SPEC 7.12, and the first sentence of each operation)
 
 abbrev zero? : ℕ → Bool
 zero? n = eqb n 0
@@ -91,7 +91,7 @@ wellFormed unknown c = false
 
 -- ---- the handle
 
--- what field a is: no handle, one that must be taken, one that must be free
+-- what field a is (SPEC 7.14, 7.16): no handle, one that must be taken, one that must be free
 pub data Use : Type 0 where
   noHandle taken free : Use
 
@@ -116,13 +116,13 @@ useOf (sup add) = noHandle
 useOf (sup remove) = noHandle
 useOf unknown = noHandle
 
--- a handle >= 256 is EBADF; then a free one is EBADF, or for create a taken one EADDRINUSE
+-- from 256 on EBADF; then a free one EBADF, or for create a taken one EADDRINUSE (SPEC 7.15, 7.16)
 unfoldable pub withHandle : Use → State → ℕ → Answer → Answer
 withHandle noHandle s h rest = rest
 withHandle taken s h rest = leb HANDLES h ⇒ Ebadf ⨾ eqb (typeOf s h) 0 ⇒ Ebadf ⨾ rest
 withHandle free s h rest = leb HANDLES h ⇒ Ebadf ⨾ not (eqb (typeOf s h) 0) ⇒ Eaddrinuse ⨾ rest
 
--- ---- the rule
+-- ---- the rule (SPEC 7.17, and operation by operation 7.26 to 7.87)
 
 -- the partition that op 27 adds
 abbrev pub partitionOf : Call → MemPartition
@@ -183,7 +183,7 @@ isPrivileged unknown = false
 unfoldable pub judgeOp : Op → State → Call → Answer
 judgeOp o s c = not (wellFormed o c) ⇒ Einval ⨾ withHandle (useOf o) s (c .a) (rule o s c)
 
--- the whole order
+-- the whole order (SPEC 7.8 to 7.17)
 unfoldable pub judge : State → Call → Answer
 judge s c =
     leb THREADS (c .caller) ⇒ Einval
@@ -192,11 +192,11 @@ judge s c =
     ⨾ isPrivileged (opOf (c .op)) && not (supervisor s (c .caller)) ⇒ Eperm
     ⨾ judgeOp (opOf (c .op)) s c
 
--- bytes as they come: fewer than 16 are SHORT, more EINVAL
+-- bytes as they come (SPEC 7.6)
 unfoldable pub heard : State → List ℕ → Answer
 heard s bs = ltb (length bs) 16 ⇒ Short ⨾ ltb 16 (length bs) ⇒ Einval ⨾ judge s (callOf bs)
 
--- what the tables answer: VALUE where they are no state at all
+-- what the tables answer: VALUE where they are no state at all (SPEC 7.94)
 unfoldable pub judgeIn : List ℕ → List ℕ → List ℕ → Call → Answer
 judgeIn os ts ss c = cond (sized (length os) (length ts) (length ss)) (judge (stateOf os ts ss) c) (refused Value)
 

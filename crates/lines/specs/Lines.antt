@@ -1,4 +1,4 @@
--- Answers as lines of text, document 01, "Replay": the answer's number and its value in decimal, one space between.
+-- Answers as lines of text: docs/SPEC.md, 11.6, 11.23 and 11.24.
 -- What putting lines into a lent buffer answers and leaves is said once here, for lines of any kind: `explain` puts its own.
 use Prim.Native.Nat.{ℕ, _+_, _*_}
 use mathlib.Core.Path.{_≡_}

@@ -1,4 +1,4 @@
--- Document 01's example, "a memory check across two neighbouring partitions", and the same with a gap between them.
+-- The example of docs/SPEC.md, 7.50: a memory check from one window into the next, and the same with a gap between them.
 use Prim.Native.Nat.{ℕ}
 use mathlib.Core.Path.{_≡_, refl}
 use mathlib.Core.Bool.{true, false}

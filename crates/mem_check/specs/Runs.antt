@@ -1,5 +1,5 @@
 -- Laws of a run of covered bytes, for every crate that asks how far it goes: it stops behind the last covered byte, so that it is as long as asked exactly
--- when every byte is covered, and else ends at the least address that is not.
+-- when every byte is covered, and else ends at the least address that is not (docs/SPEC.md, 7.44 and 7.45).
 use Prim.Native.Nat.{ℕ, zero, suc, _+_, _≤_, _<_}
 use native.Mathlib.Decide.{decLt}
 use native.Mathlib.Nat.{not-suc-le-zero}

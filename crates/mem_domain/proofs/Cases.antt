@@ -1,4 +1,4 @@
--- Document 01's cases, and what an OK add means for slots and addresses.
+-- The cases of docs/SPEC.md, 3.4 and 3.17, and what an OK add means for slots and addresses (SPEC 3.14 to 3.16).
 use Prim.Native.Nat.{ℕ, _<_}
 use native.Mathlib.Decide.{ℕ-discrete}
 use native.Mathlib.Omega.{arith}
@@ -16,7 +16,7 @@ use Rattle.mem_partition.proofs.Partition.{valid-size, share-overlap, holds-act
 use Rattle.mem_domain.proofs.Domain.{add-accepts, add-stores, removed-zero, gotten-ok}
 use Rattle.mem_domain.proofs.Slots.{free-below, free-free, addable-valid, addable-apart, slot-same, slot-other, contains-set}
 
--- 0xFFFFFFF0 with size 15 is valid, size 16 is not
+-- the greatest size at a start, and one more (SPEC 3.4)
 pub size-15-is-valid : (attr : ℕ) → isValid (record { start = 0xFFFFFFF0; size = 15; attr = attr }) ≡ true
 unfolding isValid
 size-15-is-valid attr = refl
@@ -25,7 +25,7 @@ pub size-16-is-not : (attr : ℕ) → isValid (record { start = 0xFFFFFFF0; size
 unfolding isValid
 size-16-is-not attr = refl
 
--- remove (0, 0) is ENOENT on every record, and so is every other start with size 0
+-- size 0 is ENOENT on every record, with start 0 and with every other (SPEC 3.17)
 pub remove-0-0 : (d : MemDomain) → removed d 0 0 ≡ refused (numberOf Enoent) d
 remove-0-0 d = removed-zero d 0 0 refl
 

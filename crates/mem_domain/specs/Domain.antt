@@ -1,4 +1,4 @@
--- Sixteen slots and a count, taken literally: document 01, "Domain". What is said of slots is said of a list of any length, so that it
+-- Sixteen slots and a count, taken literally: docs/SPEC.md, 3.8 to 3.26. What is said of slots is said of a list of any length, so that it
 -- serves slots that come from a table too; a slot behind the list's end reads as all zero, and storing there changes nothing.
 use Prim.Native.Nat.{ℕ}
 use mathlib.Core.Bool.{Bool, cond, not, _&&_, _||_}
@@ -14,7 +14,7 @@ use Rattle.mem_domain.specs.declared.MemDomain.{MemDomain}
 use Rattle.mem_domain.specs.declared.Changed.{Changed}
 use Rattle.mem_domain.specs.declared.Got.{Got}
 
--- domains of 16 slots
+-- how many slots a domain has (SPEC 2.3)
 abbrev pub slots : ℕ
 slots = 16
 
@@ -90,23 +90,23 @@ containsAddr l a = anyTo (holdsAt l a) slots
 unfoldable pub noPartitions : MemDomain
 noPartitions = record { partitions = replicate slots empty; «num_partitions» = 0 }
 
--- a refusal changes nothing and returns value 0
+-- a refusal: the record as it was, and the value 0 (SPEC 3.20)
 abbrev pub refused : ℕ → MemDomain → Changed
 refused code d = record { code = code; value = 0; domain = d }
 
--- OK returns the slot; that slot alone is another, and the count is set anew from the slots
+-- OK, with the slot as value: that slot alone is another, and the slots are counted again (SPEC 3.14, 3.15, 3.18, 3.19)
 unfoldable pub changedAt : List MemPartition → ℕ → MemPartition → Changed
 changedAt l k p =
     record { code = numberOf Ok; value = k; domain = record { partitions = set l k p; «num_partitions» = activeCount (set l k p) } }
 
--- add: EINVAL if invalid or overlapping an active slot; else ENOSPC if full; else the window goes into the lowest free slot
+-- add: EINVAL, ENOSPC, else OK, as SPEC 3.12 to 3.14 say
 unfoldable pub added : MemDomain → MemPartition → Changed
 added d p =
     cond (not (addable (d .partitions) p)) (refused (numberOf Einval) d) (
     cond (not (hasFree (d .partitions))) (refused (numberOf Enospc) d) (
     changedAt (d .partitions) (lowestFree (d .partitions)) p))
 
--- remove: size 0 or no match is ENOENT; else the lowest slot with that start and size becomes all zero
+-- remove: ENOENT, else OK, as SPEC 3.17 and 3.18 say
 unfoldable pub removed : MemDomain → ℕ → ℕ → Changed
 removed d start size =
     cond (eqb size 0 || not (hasWindow (d .partitions) start size)) (refused (numberOf Enoent) d) (
@@ -120,7 +120,7 @@ gotNothing code = record { code = code; start = 0; size = 0; attr = 0 }
 abbrev pub gotSlot : MemPartition → Got
 gotSlot p = record { code = numberOf Ok; start = p .start; size = p .size; attr = p .attr }
 
--- get: slot >= 16 is EINVAL, empty is ENOENT
+-- get: EINVAL, ENOENT, else OK, as SPEC 3.21 and 3.22 say
 unfoldable pub gotten : MemDomain → ℕ → Got
 gotten d k =
     cond (leb slots k) (gotNothing (numberOf Einval)) (

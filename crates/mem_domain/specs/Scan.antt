@@ -1,4 +1,4 @@
--- Slots read by their number: how many of the first n pass a test, which of them passes first, and whether any does.
+-- Slots read by their number: how many of the first n pass a test, which of them passes first, and whether any does (docs/SPEC.md, 2.15).
 use Prim.Native.Nat.{ℕ, zero, suc, _+_}
 use mathlib.Core.Bool.{Bool, cond}
 use lib.Dec.{ltb}

@@ -1,4 +1,4 @@
--- Upstream's invariant of a domain, as mem_domain.rs has it, and what it leaves out.
+-- Upstream's invariant of a domain, as mem_domain.rs has it, and what it leaves out (docs/SPEC.md, 3.27 to 3.29).
 use Prim.Native.Nat.{ℕ, _≤_, _<_}
 use mathlib.Core.Path.{_≡_}
 use mathlib.Core.Bool.{true, false}
@@ -13,7 +13,7 @@ pub record Inv (d : MemDomain) : Type 0 where
   pub valid : (i : ℕ) → i < 16 → 0 < slotAt (d .partitions) i .size → isValid (slotAt (d .partitions) i) ≡ true
   pub apart : (i j : ℕ) → i < 16 → j < 16 → (i ≡ j → ⊥) → 0 < slotAt (d .partitions) i .size → 0 < slotAt (d .partitions) j .size → overlapOf (slotAt (d .partitions) i) (slotAt (d .partitions) j) ≡ false
 
--- what upstream's type says: sixteen slots; and what its inv does not: the count equals the active slots
+-- what upstream's type says: sixteen slots; and what its inv does not: the count is how many of them are active
 pub record Counted (d : MemDomain) : Type 0 where
   pub whole : length (d .partitions) ≡ 16
   pub exact : d .«num_partitions» ≡ activeCount (d .partitions)

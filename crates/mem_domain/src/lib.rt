@@ -1,5 +1,5 @@
 // Memory domains: up to sixteen windows of addresses, upstream's mem_domain.rs. Every function takes any record literally,
-// refuses by document 01's numbers instead of requiring anything, and is promised to equal its definition in specs/: so an
+// refuses by the numbers of docs/SPEC.md, 1, instead of requiring anything, and is promised to equal its definition in specs/: so an
 // accepted window is stored as it was asked for, in the lowest free slot, and a refusal hands the same record back.
 ghost use mathlib.Core.Path.{_≡_};
 ghost use mathlib.Core.Bool.{_&&_};

@@ -1,5 +1,5 @@
 // A window of addresses by value, the partition of upstream's mem_domain.rs. Every function takes any record and any numbers literally, and is
-// promised to equal its definition in specs/Partition: sums never wrap, and two windows overlap exactly when each end exceeds the other's start.
+// promised to equal its definition in specs/Partition: sums never wrap, and windows that only touch do not overlap (docs/SPEC.md, 3.1 to 3.7).
 ghost use mathlib.Core.Path.{_≡_};
 ghost use Rattle.mem_partition.specs.Partition.{windowOf, endOf, isValid, overlapOf};
 

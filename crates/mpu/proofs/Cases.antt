@@ -1,4 +1,4 @@
--- The architecture's tables, row by row as document 01 gives them.
+-- The architecture's tables, row by row as docs/SPEC.md, 10.5 and 10.10 to 10.18, has them.
 use Prim.Native.Nat.{_+_}
 use mathlib.Core.Path.{_≡_, refl}
 use mathlib.Core.Bool.{true, false}

@@ -1,5 +1,5 @@
--- PMSAv7 as document 01, "MPU", has it: what a region's two words give unprivileged code, which plans are well formed, what a domain gives,
--- and what the checker answers. Rights are a number as attr is: 1 read, 2 write, 4 execute.
+-- PMSAv7, docs/SPEC.md, 10.1 to 10.24: what a region's two words give unprivileged code, which plans are well formed, what a domain gives,
+-- and what the checker answers. Rights are a number in the coding of attr (SPEC 10.13).
 use Prim.Native.Nat.{ℕ, _+_, _*_, _/_, _%_, _^_, _-_}
 use mathlib.Core.Bool.{Bool, cond, not, _&&_, _||_}
 use mathlib.Core.List.{List}
@@ -15,7 +15,7 @@ use Rattle.mpu.specs.Table.{lastOf}
 use Rattle.domain_rules.specs.Scan.{allTo}
 use Rattle.domain_rules.specs.Sound.{domainSound}
 
--- bits hi:lo of a word
+-- bits hi to lo of a word (SPEC 10.2)
 abbrev pub bits : ℕ → ℕ → ℕ → ℕ
 bits w hi lo = w / 2 ^ lo % 2 ^ (hi + 1 - lo)
 
@@ -23,15 +23,15 @@ bits w hi lo = w / 2 ^ lo % 2 ^ (hi + 1 - lo)
 abbrev pub within : ℕ → ℕ → ℕ → Bool
 within lo hi a = leb lo a && ltb a hi
 
--- RBAR: address 31:5
+-- the base address, from RBAR (SPEC 10.3)
 unfoldable pub baseOf : ℕ → ℕ
 baseOf rbar = rbar / 32 * 32
 
--- RASR: SIZE 5:1
+-- the field SIZE of RASR (SPEC 10.4)
 abbrev pub sizeField : ℕ → ℕ
 sizeField rasr = bits rasr 5 1
 
--- size is 2^(SIZE+1)
+-- how many bytes a region has (SPEC 10.5)
 unfoldable pub sizeOf : ℕ → ℕ
 sizeOf rasr = 2 ^ (sizeField rasr + 1)
 
@@ -39,38 +39,38 @@ sizeOf rasr = 2 ^ (sizeField rasr + 1)
 abbrev pub topOf : ℕ → ℕ → ℕ
 topOf rbar rasr = baseOf rbar + sizeOf rasr
 
--- unprivileged: AP 3 read and write; 2, 6, 7 read; 0, 1, 5 none; 4 reserved
+-- what AP gives unprivileged code (SPEC 10.14)
 unfoldable pub apRights : ℕ → ℕ
 apRights ap = cond (eqb ap 3) 3 (cond (eqb ap 2 || (eqb ap 6 || eqb ap 7)) 1 0)
 
--- execute needs read and XN 0
+-- execute comes with read where XN is 0 (SPEC 10.15)
 unfoldable pub withExecute : ℕ → ℕ → ℕ
 withExecute rights xn = cond (eqb rights 0) 0 (cond (eqb xn 0) (rights + 4) rights)
 
--- RASR: AP 26:24, XN 28
+-- the rights that AP and XN of RASR give together (SPEC 10.4)
 unfoldable pub regionRights : ℕ → ℕ
 regionRights rasr = withExecute (apRights (bits rasr 26 24)) (bits rasr 28 28)
 
--- ENABLE, bit 0, is 1, and the address is from the base on and below the base plus the size
+-- ENABLE is 1, and the address is from the base on and below the base plus the size (SPEC 10.17)
 unfoldable pub regionHolds : ℕ → ℕ → ℕ → Bool
 regionHolds rbar rasr a = eqb (rasr % 2) 1 && within (baseOf rbar) (topOf rbar rasr) a
 
--- VALID, bit 4, must be 1; region 3:0 is its place
+-- VALID is 1, and the region's number is its place in the plan (SPEC 10.7)
 unfoldable pub placeOk : ℕ → ℕ → Bool
 placeOk rbar k = eqb (bits rbar 4 4) 1 && eqb (rbar % 16) k
 
--- the bits that have no name: 31:29, 27, 23:22, 7:6
+-- the bits of RASR that have no name are 0 (SPEC 10.8)
 unfoldable pub reservedOk : ℕ → Bool
 reservedOk rasr = eqb (bits rasr 31 29) 0 && (eqb (bits rasr 27 27) 0 && (eqb (bits rasr 23 22) 0 && eqb (bits rasr 7 6) 0))
 
--- place; reserved bits; SRD 15:8 zero; AP not 4; SIZE >= 4; base a multiple of size: enabled or not
+-- a region is well formed, whether enabled or not (SPEC 10.7 to 10.11)
 unfoldable pub regionOk : ℕ → ℕ → ℕ → Bool
 regionOk rbar rasr k =
     placeOk rbar k && (
     reservedOk rasr && (
     eqb (bits rasr 15 8) 0 && (not (eqb (bits rasr 26 24) 4) && (leb 4 (sizeField rasr) && eqb (baseOf rbar % sizeOf rasr) 0))))
 
--- two words per region, in region order
+-- RBAR and RASR of region k (SPEC 10.1)
 abbrev pub rbarAt : List ℕ → ℕ → ℕ
 rbarAt plan k = getD plan (k * 2) 0
 
@@ -85,15 +85,15 @@ okTo plan = allTo (λ k. regionOk (rbarAt plan k) (rasrAt plan k) k)
 abbrev pub regionsOf : List ℕ → ℕ
 regionsOf plan = length plan / 2
 
--- at most 16 regions
+-- how many regions a plan may have
 abbrev pub maxRegions : ℕ
 maxRegions = 16
 
--- no odd word count, at most 16 regions, each well formed
+-- a plan is well formed (SPEC 10.6)
 unfoldable pub planOk : List ℕ → Bool
 planOk plan = eqb (length plan % 2) 0 && (leb (length plan) (maxRegions * 2) && okTo plan (regionsOf plan))
 
--- of the first n regions the highest-numbered enabled one that holds the address decides; none gives nothing
+-- of the first n regions the last that holds the address decides; none gives nothing (SPEC 10.18)
 abbrev pub planTo : List ℕ → ℕ → ℕ → ℕ
 planTo plan a = lastOf (λ k. regionHolds (rbarAt plan k) (rasrAt plan k) a) (λ k. regionRights (rasrAt plan k))
 
@@ -101,7 +101,7 @@ planTo plan a = lastOf (λ k. regionHolds (rbarAt plan k) (rasrAt plan k) a) (λ
 unfoldable pub rightsOfPlan : List ℕ → ℕ → ℕ
 rightsOfPlan plan a = planTo plan a (regionsOf plan)
 
--- the attr of an active slot among the first n that holds the address; none gives nothing
+-- the attr of the last active slot among the first n that holds the address; none gives nothing (SPEC 10.19)
 abbrev pub domainTo : List MemPartition → ℕ → ℕ → ℕ
 domainTo l a = lastOf (holdsAt l a) (λ k. slotAt l k .attr)
 
@@ -113,7 +113,7 @@ rightsOfDomain l a = domainTo l a slots
 unfoldable pub agreeAt : List MemPartition → List ℕ → ℕ → Bool
 agreeAt l plan a = eqb (rightsOfPlan plan a) (rightsOfDomain l a)
 
--- addresses have 32 bits
+-- addresses have 32 bits (SPEC 2.4)
 abbrev pub addresses : ℕ
 addresses = 2 ^ 32
 
@@ -121,7 +121,7 @@ addresses = 2 ^ 32
 unfoldable pub sameRights : List MemPartition → List ℕ → Bool
 sameRights l plan = allTo (agreeAt l plan) addresses
 
--- VALUE for a record that breaks a rule or an ill-formed plan; else OK for equal rights; else DIFFERS
+-- VALUE for a record that breaks a rule or an ill-formed plan; else OK for equal rights; else DIFFERS (SPEC 10.21 to 10.23)
 unfoldable pub checked : MemDomain → List ℕ → Answer
 checked d plan =
     cond (not (domainSound d && planOk plan)) (refused Value) (

@@ -1,6 +1,6 @@
 // The checker: does a PMSAv7 plan give unprivileged code just the rights of a memory domain? It trusts neither the record nor
 // whoever made the plan, and knows no planner. What is promised: `check` answers for every address below 2^32, though it looks only at
-// the edges of slots and regions (proofs/Cover.antt); a record that breaks document 01's rules (`domain_rules`) is VALUE before all else.
+// the edges of slots and regions (proofs/Cover.antt); a record that is not sound (docs/SPEC.md, 3.33) is VALUE before all else.
 ghost use mathlib.Core.Path.{_≡_};
 ghost use mathlib.Core.Bool.{not, _&&_};
 ghost use Prim.Native.Nat.{_+_, _/_, _^_, _<_, _≤_};

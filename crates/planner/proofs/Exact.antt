@@ -1,4 +1,4 @@
--- The planner's promises in document 01's words: what it hands out is accepted by the checker, and NOPLAN exactly where it must say so.
+-- The planner's promises in plainer words (docs/SPEC.md, 10.28 to 10.37): the checker accepts what it hands out, and NOPLAN exactly where it must be.
 use Prim.Native.Nat.{ℕ, _+_, _%_, _^_, _<_, _≤_}
 use mathlib.Core.Path.{_≡_, refl, ap}
 use mathlib.Core.List.{List, [], _∷_}

@@ -1,4 +1,4 @@
--- Document 01's worked example: region 2 of a plan for three slots, and what the checker says of that plan, and of the same plan with AP 6.
+-- The example of docs/SPEC.md, 10.38: region 2 of a plan for three slots, and what the checker says of that plan, and of the same plan with AP 6.
 use Prim.Native.Nat.{ℕ}
 use mathlib.Core.Path.{_≡_, refl, sym}
 use mathlib.Core.List.{List, [], _∷_}
@@ -67,7 +67,7 @@ less-is-formed : planOk plan-less ≡ true
 unfolding planOk allTo regionOk placeOk reservedOk baseOf sizeOf
 less-is-formed = refl
 
--- DIFFERS once AP is 6
+-- with AP 6 it gives less
 pub differs-worked : checked three plan-less ≡ refused Differs
 unfolding regionHolds baseOf sizeOf apRights withExecute regionRights rightsOfPlan rightsOfDomain holds lastOf
 differs-worked =

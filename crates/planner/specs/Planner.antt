@@ -1,4 +1,4 @@
--- The planner, as document 01, "MPU", has it: one region per active slot in slot order.
+-- The planner, docs/SPEC.md, 10.25 to 10.38: in the order of the slots each active one is a region.
 use Prim.Native.Nat.{ℕ, zero, suc, _+_, _*_, _/_, _%_, _^_}
 use mathlib.Core.Path.{_≡_}
 use mathlib.Core.List.{List, [], _∷_, _++_}
@@ -21,11 +21,11 @@ use Rattle.mpu.specs.Mpu.{maxRegions}
 unfoldable pub fieldFor : ℕ → ℕ
 fieldFor size = lastOf (λ s. eqb (2 ^ (s + 1)) size) (λ s. s) 32
 
--- a window that one region can be: size a power of two >= 32, start a multiple of it
+-- a window that one region can be (SPEC 10.29)
 unfoldable pub isRegion : MemPartition → Bool
 isRegion p = leb 4 (fieldFor (p .size)) && eqb (p .start % p .size) 0
 
--- RBAR: the start, VALID, and the region's place
+-- RBAR: the start, VALID, and the region's number (SPEC 10.33)
 unfoldable pub rbarFor : ℕ → ℕ → ℕ
 rbarFor start m = start + 16 + m
 
@@ -37,7 +37,7 @@ xnFor attr = cond (eqb (attr / 4 % 2) 0) (2 ^ 28) 0
 unfoldable pub apFor : ℕ → ℕ
 apFor attr = cond (eqb (attr / 2 % 2) 1) (3 * 2 ^ 24) (6 * 2 ^ 24)
 
--- RASR: XN, AP, C 1, SIZE, ENABLE; other attribute bits 0
+-- RASR: XN, AP, C, SIZE, ENABLE (SPEC 10.34)
 unfoldable pub rasrFor : ℕ → ℕ → ℕ
 rasrFor field attr = xnFor attr + apFor attr + 2 ^ 17 + field * 2 + 1
 
@@ -81,7 +81,7 @@ planOf l = wordsTo l slots
 abbrev pub wordCount : List MemPartition → ℕ
 wordCount l = activeCount l * 2
 
--- VALUE; over 16 regions EINVAL; NOPLAN for a slot that is no region, or too few regions; ROOM; else OK and the words written
+-- VALUE; over 16 regions EINVAL; NOPLAN for a slot that is no region, or too few regions; ROOM; else OK (SPEC 10.26 to 10.31)
 unfoldable pub planned : MemDomain → ℕ → ℕ → Answer
 planned d regions room =
     cond (not (domainSound d)) (refused Value) (
@@ -90,7 +90,7 @@ planned d regions room =
     cond (ltb room (wordCount (d .partitions))) (refused Room) (
     record { code = numberOf Ok; value = wordCount (d .partitions) }))))
 
--- the lent words afterwards: on OK the plan and then what lay behind it; a refusal changes nothing
+-- the lent words afterwards: on OK the plan and then what lay behind it; a refusal leaves them (SPEC 10.35)
 unfoldable pub wordsAfter : MemDomain → ℕ → List ℕ → List ℕ
 wordsAfter d regions out =
     cond (eqb (planned d regions (length out) .code) (numberOf Ok)) (planOf (d .partitions) ++ drop (wordCount (d .partitions)) out) out

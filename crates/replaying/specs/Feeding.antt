@@ -1,5 +1,5 @@
 -- A log that comes in pieces of any length: of the bytes that are there the whole calls are answered and printed, at the input's end all of them, and what
--- is left is kept at the front of the buffer, where the next bytes follow it.
+-- is left is kept at the front of the buffer, where the next bytes follow it (docs/SPEC.md, 11.25 to 11.29).
 use Prim.Native.Nat.{ℕ, _*_, _/_}
 use mathlib.Core.Path.{_≡_}
 use mathlib.Core.Bool.{Bool, cond}

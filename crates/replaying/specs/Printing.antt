@@ -1,5 +1,5 @@
 -- What replay prints: for each part of a log one line, made of the part's answer; in numbers, or in words with the call's number and its words.
--- A part is answered by the state that the parts before it left.
+-- A part is answered by the state that the parts before it left (docs/SPEC.md, 11.1 to 11.3, 11.27 and 11.28).
 use Prim.Native.Nat.{ℕ, _*_}
 use mathlib.Core.Path.{_≡_}
 use mathlib.Core.Bool.{Bool, cond, _||_}

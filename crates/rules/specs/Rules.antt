@@ -1,4 +1,4 @@
--- The rules of a state, twice. `Keeps` is document 01 with reading 15, in plain statements about records; `keepsTest` computes, on the tables of
+-- The rules of a state (docs/SPEC.md, 6), twice. `Keeps` has them in plain statements about records; `keepsTest` computes, on the tables of
 -- numbers themselves, of any length and any content. proofs/Rules.antt shows that they say the same.
 use Prim.Native.Nat.{ℕ, zero, suc, _+_, _*_, _/_, _%_, _≤_, _<_}
 use mathlib.Core.Path.{_≡_}
@@ -19,7 +19,7 @@ use Rattle.rules.specs.declared.Judged.{Judged}
 use Rattle.tables.specs.Table.{HANDLES, DOMAINS, noObject, nobody, objectAt, threadAt, partitionAt, partitionsAt}
 use Rattle.tables.specs.State.{State, stateOf, object, thread, domain, Fit}
 
--- a thread lives unless its role is 0; role 2 is a supervisor
+-- a thread lives unless its role is 0; role 2 is a supervisor (SPEC 5.3)
 abbrev pub isLive : Thread → Bool
 isLive r = not (eqb (r .role) 0)
 
@@ -27,35 +27,35 @@ abbrev pub isSupervisor : Thread → Bool
 isSupervisor r = eqb (r .role) 2
 
 pub record Keeps (s : State) : Type 0 where
-  -- 256 handles, 64 threads, 8 domains of 16 slots
+  -- how many objects, threads and domains there are (SPEC 6.2)
   pub objects-size : length (s .objects) ≡ HANDLES
   pub threads-size : length (s .threads) ≡ THREADS
   pub domains-size : length (s .domains) ≡ DOMAINS
-  -- types 0..15, flags 0..15, a free handle is all zero
+  -- types and flags up to 15, a free handle all zero (SPEC 6.3, 6.4, 6.6)
   pub types : (h : ℕ) → object s h .«obj_type» ≤ 15
   pub flags : (h : ℕ) → object s h .flags ≤ 15
   pub free : (h : ℕ) → object s h .«obj_type» ≡ 0 → object s h ≡ noObject
-  -- no dead thread holds a bit; from 64 on there is no thread, so no bit
+  -- a bit that is set is a live thread's; from 64 on there is no thread, so no bit (SPEC 6.7)
   pub bits : (h t : ℕ) → isSet (object s h .word) t ≡ true → isLive (thread s t) ≡ true
-  -- a dead thread's record is all zero; a live one is user or supervisor, with domain 0..7 or 255
+  -- a dead thread's record is all zero; a live one is user or supervisor, with domain 0..7 or 255 (SPEC 6.8 to 6.10)
   pub dead : (t : ℕ) → isLive (thread s t) ≡ false → thread s t ≡ nobody
   pub roles : (t : ℕ) → thread s t .role ≤ 2
   pub homes : (t : ℕ) → isLive (thread s t) ≡ true → (thread s t .domain < DOMAINS) ⊎ (thread s t .domain ≡ 255)
-  -- its handle is below 256, taken, of type Thread, and serves no other live thread
+  -- its handle is below 256, taken, of type Thread, and serves no other live thread (SPEC 6.11, 6.12)
   pub handles : (t : ℕ) → isLive (thread s t) ≡ true → thread s t .handle < HANDLES
   pub bodies : (t : ℕ) → isLive (thread s t) ≡ true → object s (thread s t .handle) .«obj_type» ≡ 1
   pub alone : (t u : ℕ) → isLive (thread s t) ≡ true → isLive (thread s u) ≡ true → thread s t .handle ≡ thread s u .handle → t ≡ u
-  -- an active slot is valid with an allowed attr, no two active slots of a domain overlap, a free slot is all zero
+  -- an active slot is valid with an allowed attr, no two active slots of a domain overlap, a free slot is all zero (SPEC 6.13)
   pub slots : (d : ℕ) → d < DOMAINS → SlotsKeep (domain s d)
 
--- three tables of numbers keep the rules: they fit (the raw head is judged before a record is made of it), and their picture keeps them
+-- three tables of numbers keep the rules (SPEC 6.1, 6.5): they fit (the raw head is judged before a record is made of it), and their picture keeps them
 pub record Sound (os ts ss : List ℕ) : Type 0 where
   pub fit : Fit os ts ss
   pub keeps : Keeps (stateOf os ts ss)
 
--- ---- the test
+-- ---- the test (SPEC 6.15)
 
--- the live threads among the first n, bit t for thread t
+-- the live threads among the first n, a bit for each
 unfoldable pub liveTo : List ℕ → ℕ → ℕ
 liveTo ts zero = 0
 liveTo ts (suc t) = cond (isLive (threadAt ts t)) (setBit (liveTo ts t) t) (liveTo ts t)

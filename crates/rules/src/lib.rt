@@ -1,6 +1,6 @@
 // The rules of a state, and the one function that judges three lent tables by them: of any length, with any content.
-// Calls, image and writer answer VALUE by `keeps`. Promised: it says true exactly when document 01's rules hold (proofs/Rules.antt). One pass over each
-// table; that over the threads gathers in a mask who lives, so that "no dead thread holds a bit" is one test for each object.
+// Calls, image and writer answer VALUE by `keeps`. Promised: it says true exactly when the rules of docs/SPEC.md, 6, hold. One pass over each
+// table; that over the threads gathers in a mask who lives, so that the rule about the bits (SPEC 6.7) is one test for each object.
 ghost use mathlib.Core.Path.{_≡_};
 ghost use mathlib.Core.Bool.{_||_};
 ghost use Prim.Native.Nat.{_+_, _*_, _<_, _≤_};
@@ -26,7 +26,7 @@ const ALL_HANDLES: usize = HANDLES as usize;
 
 const ALL_DOMAINS: usize = DOMAINS as usize;
 
-// What the pass over the threads finds: whether each keeps its rules, and who lives, bit t for thread t.
+// What the pass over the threads finds: whether each keeps its rules, and who lives, a bit for each.
 struct Judged {
     ok: bool,
     live: u64,
@@ -106,7 +106,7 @@ fn judge_threads(objects: &[u64], threads: &[u32]) -> Judged
     Judged { ok: true, live }
 }
 
-// The raw head is judged, before a record is made of it; that no dead thread holds a bit is one test.
+// The raw head is judged, before a record is made of it; that each bit is a live thread's is one test.
 fn object_ok(live: u64, head: u64, word: u64) -> bool
     ensures { λ r. ⌜ r ≡ objectOk live head word ⌝ }
 {
@@ -214,7 +214,7 @@ fn domains_ok(slots: &[u32]) -> bool
     true
 }
 
-// Whether a state keeps document 01's rules: the tables of any length, with any content.
+// Whether a state keeps the rules (SPEC 6): the tables of any length, with any content.
 pub fn keeps(objects: &[u64], threads: &[u32], slots: &[u32]) -> bool
     ensures { λ r. ⌜ r ≡ keepsTest (now (objects .entry)) (now (threads .entry)) (now (slots .entry)) ⌝ }
 {

@@ -1,5 +1,5 @@
 -- A state as records: what stands above `tables` speaks of these three lists. `stateOf` is the picture of three tables of numbers, `flat..` the way back;
--- on tables of the right lengths whose heads are two bytes nothing is lost either way.
+-- on tables of the right lengths whose heads are two bytes nothing is lost either way (docs/SPEC.md, 5.15 to 5.19).
 use Prim.Native.Nat.{ℕ, zero, suc, _+_, _*_, _/_, _%_, _≤_, _<_}
 use native.Mathlib.Nat.{not-suc-le-zero}
 use native.Mathlib.Decide.{decLt}

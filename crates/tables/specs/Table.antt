@@ -1,5 +1,5 @@
 -- The three tables of numbers and the records in them. Behind a table's end a record is all zero and a store does nothing: that is what
--- `getD .. 0` and `set` say, so nobody who loads or stores has to be careful.
+-- `getD .. 0` and `set` say, so nobody who loads or stores has to be careful (docs/SPEC.md, 5.2 and 5.5 to 5.14).
 use Prim.Native.Nat.{ℕ, zero, suc, _+_, _*_, _/_, _%_}
 use mathlib.Core.Path.{_≡_, refl}
 use native.Mathlib.Numerals.{add-one}

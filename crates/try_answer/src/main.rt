@@ -1,5 +1,5 @@
-// Prints document 01's table of answers as the crate `answer` has it: each number, the number of its name (or -), and what the
-// translation answers: code and upstream's value. The stored output is the table written by hand from document 01 and error.rs.
+// Prints the table of answers (docs/SPEC.md, 1) as the crate `answer` has it: each number, the number of its name (or -), and what the
+// translation answers: code and upstream's value. The stored output is that table written by hand, with error.rs beside it.
 use answer::Named;
 use libc::STDOUT_FILENO;
 

@@ -1,4 +1,4 @@
--- What upstream leaves open, closed; and document 01's cases. Assumes nothing.
+-- What upstream leaves open, closed; and the cases of docs/SPEC.md, 4.6, 4.7 and 4.22. Assumes nothing.
 use Prim.Native.Nat.{ℕ, _/_, _^_, _+_, _<_}
 use mathlib.Core.Path.{_≡_, refl, sym, ap, _∙_}
 use mathlib.Core.Logic.{_≢_, _↔_}
@@ -142,9 +142,9 @@ further-flags-kept Op.isDriver o ne = refl
 further-flags-kept Op.objTypeGet o ne = refl
 further-flags-kept (Op.hasPerm t) o ne = refl
 
--- ---- document 01's cases
+-- ---- SPEC's cases
 
--- grant at threads 63 and 64
+-- grant to the last thread that there is, and to the first that there is not (SPEC 4.6, 4.7)
 pub grant-at-63 : (o : KernelObject) → (granted o 63 ≡ done (withWord o (setBit (o .word) 63))) × (isSet (granted o 63 .object .word) 63 ≡ true)
 grant-at-63 o = (grant-does o 63 (lit< tt), grant-sets o 63 (lit< tt))
 
@@ -158,12 +158,12 @@ grant-at-64 o = grant-refuses o 64 (lit≤ tt)
 pub grant-at-the-largest : (o : KernelObject) → granted o 4294967295 ≡ refused o
 grant-at-the-largest o = grant-refuses o 4294967295 (lit≤ tt)
 
--- a latch that always refuses fails: a supervisor's validate of any record, type Any and mode either, is OK and nothing else
+-- a leaf with refusals alone fails: a supervisor's validate of any record, type Any and mode either, is OK and nothing else (SPEC 4.22)
 pub always-refusing-fails : (o : KernelObject) (t : ℕ) (r : Validated) (s : _) → validate.Post (tt {0}) (o, (0, (t, (true, (DontCare, tt))))) r s → r ≡ Ok
 unfolding validated judged typeFits access
 always-refusing-fails o t r s p = p
 
--- one that always says OK fails: the same by an unprivileged thread without its bit, on a record that is not public, is EPERM
+-- one with OK alone fails: the same for a thread that is no supervisor and has no bit, of a record that is not public, is EPERM
 pub always-ok-fails : (o : KernelObject) (t : ℕ) (r : Validated) (s : _) → public o ≡ false → holds o t ≡ false → validate.Post (tt {0}) (o, (0, (t, (false, (DontCare, tt))))) r s → r ≡ Refused 2
 unfolding validated judged typeFits
 always-ok-fails o t r s e h p = p ∙ rw (access-bit o t e ∙ h)

@@ -1,5 +1,5 @@
 -- Upstream's record and its operations on values, taken from upstream's bodies: five fields and a table of 64 yes or no.
--- And the table of a word, with which a record here is the picture of upstream's.
+-- And the table of a word, with which a record here is the picture of upstream's (docs/SPEC.md, 4.25 to 4.35).
 use Prim.Native.Nat.{ℕ, zero, suc, _+_, _*_}
 use mathlib.Core.Bool.{Bool, true, false, cond, not}
 use mathlib.Core.List.{List, [], _∷_}

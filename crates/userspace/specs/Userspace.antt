@@ -1,4 +1,4 @@
--- What the permission leaf answers and changes: document 01, "Permission leaf", for any record taken literally.
+-- What the permission leaf answers and changes, for any record taken literally: docs/SPEC.md, 4.1 to 4.20.
 use Prim.Native.Nat.{ℕ}
 use mathlib.Core.Bool.{Bool, cond, _&&_, _||_}
 use lib.Dec.{ltb, eqb}
@@ -14,7 +14,7 @@ use Rattle.userspace_decide.specs.Decide.{INITIALISED, PUBLIC, ALLOC, DRIVER, j
 use Rattle.userspace.specs.declared.KernelObject.{KernelObject}
 use Rattle.userspace.specs.declared.Changed.{Changed}
 
--- 64 threads (0..63)
+-- how many threads there are (SPEC 2.1)
 abbrev pub THREADS : ℕ
 THREADS = 64
 
@@ -36,11 +36,11 @@ allocated o = isSet (o .flags) ALLOC
 abbrev pub driver : KernelObject → Bool
 driver o = isSet (o .flags) DRIVER
 
--- thread t's bit, t < 64; a thread from 64 on has none
+-- thread t's bit; a thread from 64 on has none (SPEC 4.2)
 unfoldable pub holds : KernelObject → ℕ → Bool
 holds o t = ltb t THREADS && isSet (o .word) t
 
--- access: supervisor, or public, or t < 64 with its bit set
+-- thread t has access (SPEC 4.14)
 unfoldable pub access : KernelObject → ℕ → Bool → Bool
 access o t supervisor = supervisor || (public o || holds o t)
 
@@ -62,58 +62,58 @@ done o = record { code = numberOf codes.Ok; value = 0; object = o }
 abbrev pub refused : KernelObject → Changed
 refused o = record { code = numberOf codes.Einval; value = 0; object = o }
 
--- t >= 64 is EINVAL and the record comes back unchanged
+-- a thread from 64 on is EINVAL, and the record comes back as it was (SPEC 4.6)
 unfoldable pub changedAt : ℕ → KernelObject → KernelObject → Changed
 changedAt t before after = cond (ltb t THREADS) (done after) (refused before)
 
 -- ---- operations
 
--- new: no flags, no bits
+-- new: neither a flag nor a bit (SPEC 4.5)
 abbrev pub newObject : ℕ → KernelObject
 newObject t = record { «obj_type» = t; flags = 0; word = 0 }
 
--- grant: only bit t changes, to set
+-- grant: bit t becomes set, all else stays (SPEC 4.7)
 unfoldable pub granted : KernelObject → ℕ → Changed
 granted o t = changedAt t o (withWord o (setBit (o .word) t))
 
--- revoke, and per-thread clear: only bit t changes, to clear
+-- revoke, and per-thread clear: bit t becomes clear, all else stays (SPEC 4.8, 4.9)
 unfoldable pub revoked : KernelObject → ℕ → Changed
 revoked o t = changedAt t o (withWord o (clearBit (o .word) t))
 
--- clear all: only the word changes, to 0
+-- clear all: the word becomes 0, all else stays (SPEC 4.10)
 abbrev pub clearedAll : KernelObject → KernelObject
 clearedAll o = withWord o 0
 
--- init: only the initialised flag changes, to set
+-- init: the initialised flag becomes set, all else stays (SPEC 4.11)
 abbrev pub initiated : KernelObject → KernelObject
 initiated o = withFlags o (setBit (o .flags) INITIALISED)
 
--- uninit: only the initialised flag changes, to clear
+-- uninit: the initialised flag becomes clear, all else stays (SPEC 4.11)
 abbrev pub uninitiated : KernelObject → KernelObject
 uninitiated o = withFlags o (clearBit (o .flags) INITIALISED)
 
--- make public: only the public flag changes, to set
+-- make public: the public flag becomes set, all else stays (SPEC 4.11)
 abbrev pub published : KernelObject → KernelObject
 published o = withFlags o (setBit (o .flags) PUBLIC)
 
--- recycle: all bits clear but the caller's, initialised set, every other flag kept
+-- recycle: of the bits t's alone is set, and the initialised flag is; every other flag stays (SPEC 4.12)
 unfoldable pub recycled : KernelObject → ℕ → Changed
 recycled o t = changedAt t o (withWord (initiated o) (setBit 0 t))
 
 -- ---- queries
 
--- bit query: 1 or 0; t >= 64 is EINVAL
+-- the bit as a number; from 64 on EINVAL (SPEC 4.13)
 unfoldable pub bitAnswer : KernelObject → ℕ → Answer
 bitAnswer o t =
     cond (ltb t THREADS)
     (record { code = numberOf codes.Ok; value = bitOf (o .word) t })
     (record { code = numberOf codes.Einval; value = 0 })
 
--- type: expected Any matches all
+-- the expected type fits (SPEC 4.15)
 unfoldable pub typeFits : ℕ → ℕ → Bool
 typeFits expected actual = eqb expected (typeNumber Any) || eqb expected actual
 
--- validate, of a record
+-- validate, of a record (SPEC 4.16 to 4.20)
 unfoldable pub validated : KernelObject → ℕ → ℕ → Bool → InitCheck → Validated
 validated o expected t supervisor check =
     judged (typeFits expected (o .«obj_type»)) (access o t supervisor) (initialised o) check

@@ -1,4 +1,4 @@
--- What the exported functions promise: the leaf's own definitions, with the record's fields as plain numbers.
+-- What the exported functions promise: the leaf's own definitions, with the record's fields as plain numbers (docs/SPEC.md, 12.8 to 12.10).
 use Prim.Native.Nat.{ℕ}
 use mathlib.Core.Path.{_≡_}
 use mathlib.Core.Bool.{Bool}

@@ -1,4 +1,4 @@
--- The flags by number, and what a validation answers of what it was told: document 01, "Limits" and "Permission leaf".
+-- The flags by number, and what a validation answers of what it was told: docs/SPEC.md, 2.10 and 4.16 to 4.21.
 use Prim.Native.Nat.{ℕ}
 use mathlib.Core.Bool.{Bool, cond}
 use Rattle.answer.specs.declared.Answer.{Answer}
@@ -25,18 +25,18 @@ ALLOC = 2
 abbrev pub DRIVER : ℕ
 DRIVER = 3
 
--- the number and the value that each answer of a validation stands for
+-- the number and the value that each answer of a validation stands for (SPEC 4.21)
 abbrev pub answerOf : Validated → Answer
 answerOf Ok = record { code = numberOf codes.Ok; value = 0 }
 answerOf (Refused n) = record { code = n; value = 0 }
 
--- initialisation: must be (EINVAL), must not be (EADDRINUSE), either
+-- whether the object is as the mode wants it (SPEC 4.18 to 4.20)
 abbrev pub initJudged : Bool → InitCheck → Validated
 initJudged i MustBeInit = cond i Ok (Refused (numberOf codes.Einval))
 initJudged i MustNotBeInit = cond i (Refused (numberOf codes.Eaddrinuse)) Ok
 initJudged i DontCare = Ok
 
--- in order: type EBADF; access EPERM; initialisation
+-- the type is asked first, then access, then the mode (SPEC 4.16 to 4.20)
 unfoldable pub judged : Bool → Bool → Bool → InitCheck → Validated
 judged typeMatches hasAccess isInit check =
     cond typeMatches (cond hasAccess (initJudged isInit check) (Refused (numberOf codes.Eperm))) (Refused (numberOf codes.Ebadf))

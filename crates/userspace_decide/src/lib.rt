@@ -1,5 +1,5 @@
 // The permission leaf's decisions on plain values: upstream's `*_decide` functions, which the record's functions are made of.
-// What is promised: each function is the definition of specs/Decide for every number and yes or no; the refusals come in document 01's order.
+// What is promised: each function is the definition of specs/Decide for every number and yes or no; the refusals come in the order of docs/SPEC.md, 4.
 ghost use mathlib.Core.Path.{_≡_};
 ghost use mathlib.Core.Bool.{_||_};
 ghost use Rattle.bits.specs.Bit.{setBit, clearBit};

@@ -1,4 +1,4 @@
--- The types and the modes by number and by name: document 01, "Limits" and "Permission leaf".
+-- The types and the modes by number and by name: docs/SPEC.md, 2.8 to 2.12 and 4.23.
 use Prim.Native.Nat.{ℕ, zero, suc}
 use mathlib.Core.Bool.{cond}
 use lib.IntN.{ℤ, pos, negsuc}
@@ -12,7 +12,7 @@ use Rattle.userspace_names.specs.declared.InitCheck.the-variants.{MustBe
 use Rattle.userspace_names.specs.declared.NamedCheck.{NamedCheck}
 use Rattle.userspace_names.specs.declared.NamedCheck.the-variants as checks
 
--- Any 0, Thread 1, Sem 2, Mutex 3, CondVar 4, MsgQ 5, Stack 6, Pipe 7, Timer 8, Event 9, MemSlab 10, Fifo 11, Lifo 12, SysMutex 13, Futex 14, Mbox 15
+-- the number of each type (SPEC 2.8)
 abbrev pub typeNumber : ObjType → ℕ
 typeNumber Any = 0
 typeNumber Thread = 1
@@ -31,7 +31,7 @@ typeNumber SysMutex = 13
 typeNumber Futex = 14
 typeNumber Mbox = 15
 
--- the type of each number; from 16 on there is none
+-- the type of each number; from 16 on there is none (SPEC 2.9)
 unfoldable pub typeNamed : ℕ → NamedType
 typeNamed n =
     cond (eqb n 0) (types.Is Any) (
@@ -51,13 +51,13 @@ typeNamed n =
     cond (eqb n 14) (types.Is Futex) (
     cond (eqb n 15) (types.Is Mbox) (types.Nothing))))))))))))))))
 
--- initialisation 0 must be, -1 must not be, 1 either
+-- the number of each mode (SPEC 2.11)
 abbrev pub checkNumber : InitCheck → ℤ
 checkNumber MustBeInit = pos 0
 checkNumber MustNotBeInit = negsuc 0
 checkNumber DontCare = pos 1
 
--- the mode of each number; any but 0, -1 and 1 names none
+-- the mode of each number; any but 0, -1 and 1 names none (SPEC 2.12)
 abbrev pub checkNamed : ℤ → NamedCheck
 checkNamed (pos zero) = checks.Is MustBeInit
 checkNamed (pos (suc zero)) = checks.Is DontCare
@@ -65,7 +65,7 @@ checkNamed (pos (suc (suc n))) = checks.Nothing
 checkNamed (negsuc zero) = checks.Is MustNotBeInit
 checkNamed (negsuc (suc n)) = checks.Nothing
 
--- a raw mode: any value but 0 and -1 means either
+-- a raw mode, where every number stands for some mode (SPEC 4.23)
 abbrev pub modeOf : ℤ → InitCheck
 modeOf (pos zero) = MustBeInit
 modeOf (pos (suc n)) = DontCare
