@@ -27,7 +27,7 @@ const CALL: usize = 16;
 pub const REFUSAL: usize = 30;
 
 // How many numbers a call can have before they begin again.
-const NUMBERS: usize = 4294967296;
+const NUMBERS: u64 = 4294967296;
 
 // What feeding answers: the table's number with the text's bytes, how many bytes of the log are kept, and the next call's number.
 pub struct Fed {
@@ -146,7 +146,7 @@ fn there(have: usize, more: usize, most: usize) -> usize
 fn number_after(first: u32, n: usize) -> u32
     ensures { λ r. ⌜ r ≡ numberAt first n ⌝ }
 {
-    let more = (n % NUMBERS) as u32;
+    let more = (n as u64 % NUMBERS) as u32;
     std::num::wrapping_add_u32(first, more)
 }
 
