@@ -1,58 +1,96 @@
 use native.Mathlib.Omega.{arith}
 use Rattle.answer.specs.Tests.{tests}
-use Rattle.lines.specs.Steps.{_then_, known-as, loosely}
-use Rattle.words.specs.Words.{mode}
-use Rattle.words.proofs.Pieces.{below-zero}
+use Rattle.lines.specs.Steps.{known-as, loosely, _then_}
+use Rattle.words.specs.Words.{home, modeNumber, mode, valueWords, widestField}
+use Rattle.words.proofs.Pieces.{word, below-zero}
 use borrow.Author.Needs.{needs}
 use Rattle.words.proofs.put_mode.Statement.{statement}
 use Rattle.words.proofs.put_mode.Tie as tie
+use Rattle.words.proofs.put_mode.Reads as reads
+use Rattle.words.proofs.put_mode.Lts as lts
+use Rattle.words.proofs.put_mode_number.Reads as put-mode-number-reads
+use Rattle.words.proofs.put_word.Reads as put-word-reads
 
-slice-aggregate-put-field : tie.Need-slice-aggregate-put-field
-slice-aggregate-put-field c = search needs
-
-put-field-requires : tie.Need-put-field-requires
-put-field-requires c κs = search needs
-
-same-length : tie.Need-same-length
-same-length c = search needs
-
-returns : tie.Need-returns
-unfolding mode
-returns c = known-as (search tests) (c .before .before .put-field .ensures)
-
+-- src/lib.rt:298:35
 slice-aggregate-put-word : tie.Need-slice-aggregate-put-word
 slice-aggregate-put-word c = search needs
 
+-- src/lib.rt:298:9
 put-word-requires : tie.Need-put-word-requires
 put-word-requires c κs = search needs
 
-sub-put-number : tie.Need-sub-put-number
-sub-put-number c = search needs
+-- src/lib.rt:298:9
+same-length : tie.Need-same-length
+same-length c = search needs
 
-add-put-number : tie.Need-add-put-number
-add-put-number c = search needs
+-- src/lib.rt:298:9
+returns : tie.Need-returns
+unfolding mode
+returns c = word widestField (omega arith) (search tests) (c .before .before .put-word .ensures)
 
-put-number-requires : tie.Need-put-number-requires
-put-number-requires c κs = search needs
+-- src/lib.rt:301:35
+slice-aggregate-put-word-2 : tie.Need-slice-aggregate-put-word-2
+slice-aggregate-put-word-2 c = search needs
 
+-- src/lib.rt:301:9
+put-word-requires-2 : tie.Need-put-word-requires-2
+put-word-requires-2 c κs = search needs
+
+-- src/lib.rt:301:9
 same-length-2 : tie.Need-same-length-2
 same-length-2 c = search needs
 
+-- src/lib.rt:301:9
 returns-2 : tie.Need-returns-2
-returns-2 c = known-as (below-zero _ ((c .before .before .before .before .before .before .before .before .before .if1 .left)) (omega arith)) (loosely 23 (omega arith) ((c .before .before .before .before .before .before .put-word .ensures) then (c .before .before .put-number .ensures)))
+unfolding mode
+returns-2 c = word widestField (omega arith) (search tests) (c .before .before .put-word2 .ensures)
+
+-- src/lib.rt:304:35
+slice-aggregate-put-word-3 : tie.Need-slice-aggregate-put-word-3
+slice-aggregate-put-word-3 c = search needs
+
+-- src/lib.rt:304:9
+put-word-requires-3 : tie.Need-put-word-requires-3
+put-word-requires-3 c κs = search needs
+
+-- src/lib.rt:304:9
+same-length-3 : tie.Need-same-length-3
+same-length-3 c = search needs
+
+-- src/lib.rt:304:9
+returns-3 : tie.Need-returns-3
+unfolding mode
+returns-3 c = word widestField (omega arith) (search tests) (c .before .before .put-word3 .ensures)
+
+-- src/lib.rt:306:5
+put-mode-number-requires : tie.Need-put-mode-number-requires
+put-mode-number-requires c κs = search needs
+
+-- src/lib.rt:293:1
+same-length-4 : tie.Need-same-length-4
+same-length-4 c = search needs
+
+-- src/lib.rt:293:1
+returns-4 : tie.Need-returns-4
+unfolding mode
+returns-4 c = known-as (search tests) (c .before .before .put-mode-number .ensures)
 
 pub put-mode-spec : {M : Type 1} → statement M
 put-mode-spec =
     tie.close
     (tie.spec
-    slice-aggregate-put-field
-    put-field-requires
-    same-length
-    returns
     slice-aggregate-put-word
     put-word-requires
-    sub-put-number
-    add-put-number
-    put-number-requires
+    same-length
+    returns
+    slice-aggregate-put-word-2
+    put-word-requires-2
     same-length-2
-    returns-2)
+    returns-2
+    slice-aggregate-put-word-3
+    put-word-requires-3
+    same-length-3
+    returns-3
+    put-mode-number-requires
+    same-length-4
+    returns-4)

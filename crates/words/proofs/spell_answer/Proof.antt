@@ -19,8 +19,8 @@ slice-aggregate-put-word-2 c = search needs
 put-word-requires-2 : tie.Need-put-word-requires-2
 put-word-requires-2 c κs = search needs
 
-put-number-requires : tie.Need-put-number-requires
-put-number-requires c κs = search needs
+put-value-requires : tie.Need-put-value-requires
+put-value-requires c κs = search needs
 
 slice-aggregate-put-word-3 : tie.Need-slice-aggregate-put-word-3
 slice-aggregate-put-word-3 c = search needs
@@ -33,7 +33,7 @@ same-length c = search needs
 
 returns : tie.Need-returns
 unfolding answerWords
-returns c = (c .before .before .before .before .before .before .before .before .before .before .before .before .before .before .before .before .before .before .before .before .put-word .ensures) then (c .before .before .before .before .before .before .before .before .before .before .before .before .before .before .before .before .put-name .ensures) then (c .before .before .before .before .before .before .before .before .before .before .before .put-word2 .ensures) then (c .before .before .before .before .before .before .before .put-number .ensures) then (c .before .before .put-word3 .ensures)
+returns c = (c .before .before .before .before .before .before .before .before .before .before .before .before .before .before .before .before .before .before .before .before .put-word .ensures) then (c .before .before .before .before .before .before .before .before .before .before .before .before .before .before .before .before .put-name .ensures) then (c .before .before .before .before .before .before .before .before .before .before .before .put-word2 .ensures) then (c .before .before .before .before .before .before .before .put-value .ensures) then (c .before .before .put-word3 .ensures)
 
 pub spell-answer-spec : {M : Type 1} → statement M
 spell-answer-spec =
@@ -44,7 +44,7 @@ spell-answer-spec =
     put-name-requires
     slice-aggregate-put-word-2
     put-word-requires-2
-    put-number-requires
+    put-value-requires
     slice-aggregate-put-word-3
     put-word-requires-3
     same-length
