@@ -1,5 +1,5 @@
 -- What the functions that put words cite: names in a row, a word where one is chosen, hex digits, a mode with a sign, room.
-use Prim.Native.Nat.{ℕ, zero, suc, _+_, _-_, _≤_, _<_}
+use Prim.Native.Nat.{ℕ, zero, suc, _+_, _-_, _%_, _^_, _≤_, _<_}
 use native.Mathlib.Numerals.{add-one}
 use native.Mathlib.Nat.{le-refl, add-zero}
 use native.Mathlib.Omega.{arith}
@@ -10,12 +10,12 @@ use mathlib.Core.List.{List, [], _∷_, _++_}
 use lib.Dec.{leb, eqb}
 use lib.ListN.{length, getD, take, drop, length-drop, length-take, drop-of-length-le}
 use lib.Seq.{drop-cons, drop-drop}
-use borrow.Author.Tests.{le-ltb, leb-true, leb-false, not-true, not-false, eq-eqb, ne-eqb}
+use borrow.Author.Tests.{lt-ltb, le-ltb, leb-true, leb-false, not-true, not-false, eq-eqb, ne-eqb}
 use Rattle.answer.specs.Tests.{gt-eqb, lt-eqb}
 use Rattle.lines.specs.Steps.{Piece, known-as, loosely, piece, _then_}
 use Rattle.text.specs.Text.{ascii, decimal, hex, Put}
 use Rattle.text.specs.Laws.{hex-most, put-most}
-use Rattle.words.specs.Words.{before, nth, unused, modeNumber, fieldB, widestField}
+use Rattle.words.specs.Words.{before, nth, operationNames, modeNames, unknown, rank, operation, unused, modeNumber, mode, fieldB, widestField}
 use Rattle.words.specs.Row.{Begins, Follows}
 
 -- nothing is put
@@ -90,7 +90,27 @@ nth-is names k from end b e =
     let n : end - from ≡ before (drop from names) = omega (arith, e) in
     rw n (b .name)
 
+-- ---- an operation
+
+module _ (op : ℕ) {k : ℕ} (e : k ≡ rank op) where
+  pub has-name : k < 18 → nth k operationNames ≡ operation op
+  unfolding operation
+  has-name h = rw (← e, lt-ltb k 18 h) refl
+
+  pub has-none : 18 ≤ k → unknown op ≡ operation op
+  unfolding operation
+  has-none h = rw (← e, le-ltb k 18 h) refl
+
 -- ---- a mode
+
+module _ (n : ℕ) {k : ℕ} (e : k ≡ (n + 1) % 2 ^ 32) where
+  pub mode-named : k < 3 → ascii ", " ++ nth k modeNames ≡ mode n
+  unfolding mode
+  mode-named h = rw (← e, lt-ltb k 3 h) refl
+
+  pub mode-numbered : 3 ≤ k → modeNumber n ≡ mode n
+  unfolding mode
+  mode-numbered h = rw (← e, le-ltb k 3 h) refl
 
 -- the upper half of the modes, counted down from 2^32
 pub below-zero : (n : ℕ) → 2147483648 ≤ n → n ≤ 4294967295 → ascii ", mode -" ++ decimal (4294967295 - n + 1) ≡ modeNumber n

@@ -1,5 +1,5 @@
 -- What the crates above cite of words that were put: where the widest have room they are a piece, and none are wider than that.
-use Prim.Native.Nat.{ℕ, zero, suc, _+_, _-_, _≤_, _<_, max}
+use Prim.Native.Nat.{ℕ, zero, suc, _+_, _-_, _*_, _%_, _^_, _≤_, _<_, max}
 use native.Mathlib.Omega.{arith}
 use mathlib.Core.Path.{_≡_, refl, _∙_}
 use mathlib.Core.Bool.{Bool, true, false, cond}
@@ -11,7 +11,7 @@ use Rattle.text.specs.Text.{ascii, decimal, hex}
 use Rattle.text.specs.Laws.{decimal-most, hex-most}
 use Rattle.lines.specs.Steps.{Piece}
 use Rattle.decoding.specs.declared.Call.{Call}
-use Rattle.words.specs.Words.{before, nth, openNames, objectNames, threadNames, answerNames, typeNames, rightsNames, unknown, operation, answerName, address, size, labelled, field, unused, named, type, role, access, rights, home, modeNumber, mode, fieldA, fieldB, fieldC, fieldD, callWords, valueWords, answerWords, widestOperation, widestField, widestCall, widestAnswer}
+use Rattle.words.specs.Words.{before, nth, operationNames, answerNames, typeNames, modeNames, rightsNames, unknown, rank, operation, answerName, address, size, labelled, field, unused, named, type, role, access, rights, home, modeNumber, mode, onHandle, onDomain, fieldA, fieldB, fieldC, fieldD, fields, callWords, valueWords, answerWords, widestOperation, widestField, widestCall, widestAnswer}
 use Rattle.words.specs.Placed.{placeAfter, textAfter, Placed}
 
 -- ---- with room, and without
@@ -95,17 +95,13 @@ nth-most (suc k) xs = omega (arith, nth-most k (drop (suc (before xs)) xs), rest
 row : (m k : ℕ) (xs : List ℕ) → widest 0 xs ≤ m → Most m (nth k xs)
 row m k xs h = record { bound = omega (arith, nth-most k xs, h) }
 
-pub open-most : (k : ℕ) → length (nth k openNames) ≤ widestOperation
+pub rank-most : (k : ℕ) → length (nth k operationNames) ≤ widestOperation
 unfolding widest
-open-most k = row widestOperation k openNames (omega arith) .bound
+rank-most k = row widestOperation k operationNames (omega arith) .bound
 
-pub object-most : (k : ℕ) → length (nth k objectNames) ≤ widestOperation
+pub mode-name-most : (k : ℕ) → length (nth k modeNames) ≤ 23
 unfolding widest
-object-most k = row widestOperation k objectNames (omega arith) .bound
-
-pub thread-most : (k : ℕ) → length (nth k threadNames) ≤ widestOperation
-unfolding widest
-thread-most k = row widestOperation k threadNames (omega arith) .bound
+mode-name-most k = row 23 k modeNames (omega arith) .bound
 
 pub answer-name-most : (k : ℕ) → length (nth k answerNames) ≤ 10
 unfolding widest
@@ -113,10 +109,7 @@ answer-name-most k = row 10 k answerNames (omega arith) .bound
 
 operation-most : (op : ℕ) → Most widestOperation (operation op)
 unfolding operation unknown
-operation-most op =
-    let u = word 10 (ascii "operation ") (omega arith) and number op in
-    either (ltb op 5) (record { bound = open-most op }) (either (ltb op 16) u (
-    either (ltb op 23) (record { bound = object-most (op - 16) }) (either (ltb op 29) (record { bound = thread-most (op - 23) }) u)))
+operation-most op = either (ltb (rank op) 18) (record { bound = rank-most (rank op) }) (word 10 (ascii "operation ") (omega arith) and number op)
 
 name-most : (code : ℕ) → Most 10 (answerName code)
 unfolding answerName
@@ -178,17 +171,12 @@ mode-number-most n =
 mode-most : (n : ℕ) → Most widestField (mode n)
 unfolding mode
 mode-most n =
-    either (eqb n 0) (word widestField (ascii ", must be initialised") (omega arith)) (
-    either (eqb n 1) (word widestField (ascii ", initialised or not") (omega arith)) (
-    either (eqb n 4294967295) (word widestField (ascii ", must not be initialised") (omega arith)) (mode-number-most n)))
+    let k : ℕ = (n + 1) % 2 ^ 32 in
+    either (ltb k 3) (word 2 (ascii ", ") (omega arith) and record { bound = mode-name-most k }) (mode-number-most n)
 
 a-most : (op n : ℕ) → Most widestField (fieldA op n)
 unfolding fieldA
-a-most op n =
-    let f : (xs : List ℕ) → length xs ≤ 10 → Most widestField (field xs n) = λ xs. field-most xs n in
-    let u = unused-most (ascii "unused a") n (omega arith) in
-    either (ltb op 3) (f _ (omega arith)) (either (ltb op 16) u (either (ltb op 24) (f _ (omega arith))
-    (either (ltb op 27) u (either (ltb op 29) (f _ (omega arith)) u))))
+a-most op n = either (onHandle op) (field-most _ n (omega arith)) (either (onDomain op) (field-most _ n (omega arith)) (unused-most _ n (omega arith)))
 
 b-most : (op n : ℕ) → Most widestField (fieldB op n)
 unfolding fieldB
@@ -212,18 +200,19 @@ d-most : (op n : ℕ) → Most widestField (fieldD op n)
 unfolding fieldD
 d-most op n = either (eqb op 3) (access-most n) (either (eqb op 27) (rights-most n) (unused-most _ n (omega arith)))
 
+fields-most : (c : Call) → Most (4 * widestField) (fields c)
+unfolding fields
+fields-most c = a-most (c .op) (c .a) and b-most (c .op) (c .b) and c-most (c .op) (c .c) and d-most (c .op) (c .d)
+
 pub call-most : (c : Call) → length (callWords c) ≤ widestCall
 unfolding callWords
-call-most c =
-    (operation-most (c .op) and word 8 (ascii " caller ") (omega arith) and number (c .caller)
-    and a-most (c .op) (c .a) and b-most (c .op) (c .b) and c-most (c .op) (c .c) and d-most (c .op) (c .d)) .bound
+call-most c = (operation-most (c .op) and word 8 (ascii " caller ") (omega arith) and number (c .caller) and fields-most c) .bound
 
-value-most : (place : Bool) (value : ℕ) → Most 10 (valueWords place value)
+value-most : (place : Bool) (value : ℕ) → Most 11 (valueWords place value)
 unfolding valueWords
-value-most place value = either place (address-most value) (number value)
+value-most place value = either place (address-most value) (number value) and word 1 (ascii "\n") (omega arith)
 
 pub answer-most : (place : Bool) (code value : ℕ) → length (answerWords place code value) ≤ widestAnswer
 unfolding answerWords
 answer-most place code value =
-    (word 2 (ascii ": ") (omega arith) and name-most code and word 1 (ascii " ") (omega arith) and value-most place value
-    and word 1 (ascii "\n") (omega arith)) .bound
+    (word 2 (ascii ": ") (omega arith) and name-most code and word 1 (ascii " ") (omega arith) and value-most place value) .bound

@@ -2,8 +2,8 @@
 -- A field has its own word before it, or is one of a few words. Addresses and starts are 0x and eight digits in base 16, lengths and sizes 0x and no zeros in
 -- front, all other numbers decimal. A field that the operation does not use is left out where it is 0; where it is not, it is why the call is EINVAL, and it is
 -- shown with its letter. So a line tells every byte of its call.
-use Prim.Native.Nat.{ℕ, zero, suc, _+_, _-_, _*_}
-use mathlib.Core.Bool.{Bool, cond}
+use Prim.Native.Nat.{ℕ, zero, suc, _+_, _-_, _*_, _%_, _^_}
+use mathlib.Core.Bool.{Bool, true, false, cond}
 use mathlib.Core.List.{List, [], _∷_, _++_}
 use lib.Dec.{eqb, ltb}
 use lib.ListN.{take, drop}
@@ -22,21 +22,20 @@ unfoldable pub nth : ℕ → List ℕ → List ℕ
 nth zero xs = take (before xs) xs
 nth (suc k) xs = nth k (drop (suc (before xs)) xs)
 
--- the operations from 0, from 16 and from 23 on
-abbrev pub openNames : List ℕ
-openNames = ascii "validate,grant,release,memory check,exit"
-
-abbrev pub objectNames : List ℕ
-objectNames = ascii "create object,delete object,revoke,init,uninit,recycle,make public"
-
-abbrev pub threadNames : List ℕ
-threadNames = ascii "create thread,end thread,inherit,assign,add partition,remove partition"
+-- the operations 0 to 4, and behind them 16 to 28
+abbrev pub operationNames : List ℕ
+operationNames =
+    ascii "validate,grant,release,memory check,exit,create object,delete object,revoke,init,uninit,recycle,make public,create thread,end thread,inherit,assign,add partition,remove partition"
 
 abbrev pub answerNames : List ℕ
 answerNames = ascii "OK,EINVAL,EPERM,EBADF,EADDRINUSE,ENOSPC,ENOENT,SHORT,MAGIC,VALUE,NOPLAN,ROOM,DIFFERS"
 
 abbrev pub typeNames : List ℕ
 typeNames = ascii "Any,Thread,Sem,Mutex,CondVar,MsgQ,Stack,Pipe,Timer,Event,MemSlab,Fifo,Lifo,SysMutex,Futex,Mbox"
+
+-- the modes -1, 0 and 1
+abbrev pub modeNames : List ℕ
+modeNames = ascii "must not be initialised,must be initialised,initialised or not"
 
 -- 1 is the right to read, 2 to write, 4 to execute; without the first there are none
 abbrev pub rightsNames : List ℕ
@@ -47,12 +46,12 @@ rightsNames = ascii "attr 0,r--,attr 2,rw-,attr 4,r-x,attr 6,rwx"
 unfoldable pub unknown : ℕ → List ℕ
 unknown op = ascii "operation " ++ decimal op
 
+-- where an operation stands in the row; from 18 on it has no name
+unfoldable pub rank : ℕ → ℕ
+rank op = cond (ltb op 5) op (cond (ltb op 16) 18 (op - 11))
+
 unfoldable pub operation : ℕ → List ℕ
-operation op =
-    cond (ltb op 5) (nth op openNames) (
-    cond (ltb op 16) (unknown op) (
-    cond (ltb op 23) (nth (op - 16) objectNames) (
-    cond (ltb op 29) (nth (op - 23) threadNames) (unknown op))))
+operation op = cond (ltb (rank op) 18) (nth (rank op) operationNames) (unknown op)
 
 unfoldable pub answerName : ℕ → List ℕ
 answerName code = cond (ltb code 13) (nth code answerNames) (decimal code)
@@ -99,20 +98,19 @@ unfoldable pub modeNumber : ℕ → List ℕ
 modeNumber n = cond (ltb n 2147483648) (field (ascii "mode") n) (ascii ", mode -" ++ decimal (4294967296 - n))
 
 unfoldable pub mode : ℕ → List ℕ
-mode n =
-    cond (eqb n 0) (ascii ", must be initialised") (
-    cond (eqb n 1) (ascii ", initialised or not") (
-    cond (eqb n 4294967295) (ascii ", must not be initialised") (modeNumber n)))
+mode n = cond (ltb ((n + 1) % 2 ^ 32) 3) (ascii ", " ++ nth ((n + 1) % 2 ^ 32) modeNames) (modeNumber n)
 
 -- ---- the fields of an operation
 
+-- a is a handle, or a domain
+unfoldable pub onHandle : ℕ → Bool
+onHandle op = cond (ltb op 3) true (cond (ltb op 16) false (ltb op 24))
+
+unfoldable pub onDomain : ℕ → Bool
+onDomain op = cond (ltb op 27) false (ltb op 29)
+
 unfoldable pub fieldA : ℕ → ℕ → List ℕ
-fieldA op n =
-    cond (ltb op 3) (field (ascii "handle") n) (
-    cond (ltb op 16) (unused (ascii "unused a") n) (
-    cond (ltb op 24) (field (ascii "handle") n) (
-    cond (ltb op 27) (unused (ascii "unused a") n) (
-    cond (ltb op 29) (field (ascii "domain") n) (unused (ascii "unused a") n)))))
+fieldA op n = cond (onHandle op) (field (ascii "handle") n) (cond (onDomain op) (field (ascii "domain") n) (unused (ascii "unused a") n))
 
 unfoldable pub fieldB : ℕ → ℕ → List ℕ
 fieldB op n =
@@ -143,17 +141,18 @@ fieldD op n = cond (eqb op 3) (access n) (cond (eqb op 27) (rights n) (unused (a
 
 -- ---- a call, an answer
 
+unfoldable pub fields : Call → List ℕ
+fields c = fieldA (c .op) (c .a) ++ fieldB (c .op) (c .b) ++ fieldC (c .op) (c .c) ++ fieldD (c .op) (c .d)
+
 unfoldable pub callWords : Call → List ℕ
-callWords c =
-    operation (c .op) ++ ascii " caller " ++ decimal (c .caller)
-    ++ fieldA (c .op) (c .a) ++ fieldB (c .op) (c .b) ++ fieldC (c .op) (c .c) ++ fieldD (c .op) (c .d)
+callWords c = operation (c .op) ++ ascii " caller " ++ decimal (c .caller) ++ fields c
 
 -- the value is a number, or an address
 unfoldable pub valueWords : Bool → ℕ → List ℕ
-valueWords place value = cond place (address value) (decimal value)
+valueWords place value = cond place (address value) (decimal value) ++ ascii "\n"
 
 unfoldable pub answerWords : Bool → ℕ → ℕ → List ℕ
-answerWords place code value = ascii ": " ++ answerName code ++ ascii " " ++ valueWords place value ++ ascii "\n"
+answerWords place code value = ascii ": " ++ answerName code ++ ascii " " ++ valueWords place value
 
 -- ---- the widest of each kind, in bytes
 

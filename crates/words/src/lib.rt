@@ -2,14 +2,15 @@
 // Promised of `put_call` and `put_answer`: the words of specs/Words.antt at the place that was asked for, where the widest words would have room there, and the
 // place behind them; else nothing is put, and the place is the one asked for (`Placed`, specs/Placed.antt). What lies around them stays.
 ghost use mathlib.Core.Path.{_≡_};
+ghost use mathlib.Core.Bool.{cond};
 ghost use mathlib.Core.List.{_++_};
-ghost use Prim.Native.Nat.{_+_, _<_, _≤_};
+ghost use Prim.Native.Nat.{_+_, _*_, _<_, _≤_};
 ghost use lib.ListN.{length, drop};
 ghost use Rattle.text.specs.Text.{ascii, decimal};
 ghost use Rattle.lines.specs.Steps.{Piece};
 ghost use Rattle.words.specs.Placed.{Placed};
 ghost use Rattle.words.specs.Row.{Begins, Follows};
-ghost use Rattle.words.specs.Words.{before, nth, unknown, operation, answerName, address, size, labelled, field, unused, named, type as type·spec, role, access, rights, home, modeNumber, mode, fieldA, fieldB, fieldC, fieldD, callWords, valueWords, answerWords, widestOperation, widestField, widestCall, widestAnswer};
+ghost use Rattle.words.specs.Words.{before, nth, unknown, rank, operation, answerName, address, size, labelled, field, unused, named, type as type·spec, role, access, rights, home, modeNumber, mode, onHandle, onDomain, fieldA, fieldB, fieldC, fieldD, fields, callWords, valueWords, answerWords, widestOperation, widestField, widestCall, widestAnswer};
 use decoding::Call;
 
 // The widest words of a field, of a call (the operation, the caller, four fields), and of an answer.
@@ -19,16 +20,13 @@ pub const CALL: usize = 20 + 18 + 4 * FIELD;
 
 pub const ANSWER: usize = 24;
 
+// How many operations have names.
+const NAMED: u32 = 18;
+
 // No domain's number.
 const NONE: u32 = 255;
 
-// The modes with names, and the least mode below zero.
-const MUST: u32 = 0;
-
-const EITHER: u32 = 1;
-
-const MUST_NOT: u32 = 4294967295;
-
+// The least mode below zero.
 const SIGN: u32 = 2147483648;
 
 fn put_word(text: &mut [u8], at: usize, word: &[u8]) -> usize
@@ -117,30 +115,29 @@ fn put_unknown(text: &mut [u8], at: usize, op: u32) -> usize
     put_number(text, p, op)
 }
 
+fn rank_of(op: u32) -> u32
+    ensures { λ r. ⌜ r ≡ rank op ⌝ }
+{
+    if op < 5 {
+        return op;
+    }
+    if op < 16 {
+        return NAMED;
+    }
+    op - 11
+}
+
 fn put_operation(text: &mut [u8], at: usize, op: u32) -> usize
     requires { ⌜ at + widestOperation ≤ length (now text) ⌝ }
     ensures { λ r. ⌜ Piece (now (text .entry)) at widestOperation (operation op) r (now (text .exit)) ⌝ }
 {
-    if op < 5 {
-        return put_nth(text, at, b"validate,grant,release,memory check,exit", op);
-    }
-    if op < 16 {
-        return put_unknown(text, at, op);
-    }
-    if op < 23 {
+    let k = rank_of(op);
+    if k < NAMED {
         return put_nth(
             text,
             at,
-            b"create object,delete object,revoke,init,uninit,recycle,make public",
-            op - 16,
-        );
-    }
-    if op < 29 {
-        return put_nth(
-            text,
-            at,
-            b"create thread,end thread,inherit,assign,add partition,remove partition",
-            op - 23,
+            b"validate,grant,release,memory check,exit,create object,delete object,revoke,init,uninit,recycle,make public,create thread,end thread,inherit,assign,add partition,remove partition",
+            k,
         );
     }
     put_unknown(text, at, op)
@@ -294,35 +291,48 @@ fn put_mode(text: &mut [u8], at: usize, n: u32) -> usize
     requires { ⌜ at + widestField ≤ length (now text) ⌝ }
     ensures { λ r. ⌜ Piece (now (text .entry)) at widestField (mode n) r (now (text .exit)) ⌝ }
 {
-    if n == MUST {
-        return put_word(text, at, b", must be initialised");
-    }
-    if n == EITHER {
-        return put_word(text, at, b", initialised or not");
-    }
-    if n == MUST_NOT {
-        return put_word(text, at, b", must not be initialised");
+    let k = std::num::wrapping_add_u32(n, 1);
+    if k < 3 {
+        let p = put_word(text, at, b", ");
+        return put_nth(
+            text,
+            p,
+            b"must not be initialised,must be initialised,initialised or not",
+            k,
+        );
     }
     put_mode_number(text, at, n)
+}
+
+fn on_handle(op: u32) -> bool
+    ensures { λ r. ⌜ r ≡ onHandle op ⌝ }
+{
+    if op < 3 {
+        return true;
+    }
+    if op < 16 {
+        return false;
+    }
+    op < 24
+}
+
+fn on_domain(op: u32) -> bool
+    ensures { λ r. ⌜ r ≡ onDomain op ⌝ }
+{
+    if op < 27 {
+        return false;
+    }
+    op < 29
 }
 
 fn put_a(text: &mut [u8], at: usize, op: u32, n: u32) -> usize
     requires { ⌜ at + widestField ≤ length (now text) ⌝ }
     ensures { λ r. ⌜ Piece (now (text .entry)) at widestField (fieldA op n) r (now (text .exit)) ⌝ }
 {
-    if op < 3 {
+    if on_handle(op) {
         return put_field(text, at, b"handle", n);
     }
-    if op < 16 {
-        return put_unused(text, at, b"unused a", n);
-    }
-    if op < 24 {
-        return put_field(text, at, b"handle", n);
-    }
-    if op < 27 {
-        return put_unused(text, at, b"unused a", n);
-    }
-    if op < 29 {
+    if on_domain(op) {
         return put_field(text, at, b"domain", n);
     }
     put_unused(text, at, b"unused a", n)
@@ -395,6 +405,16 @@ fn put_d(text: &mut [u8], at: usize, op: u32, n: u32) -> usize
     }
 }
 
+fn put_fields(text: &mut [u8], at: usize, c: Call) -> usize
+    requires { ⌜ at + 4 * widestField ≤ length (now text) ⌝ }
+    ensures { λ r. ⌜ Piece (now (text .entry)) at (4 * widestField) (fields c) r (now (text .exit)) ⌝ }
+{
+    let p = put_a(text, at, c.op, c.a);
+    let q = put_b(text, p, c.op, c.b);
+    let s = put_c(text, q, c.op, c.c);
+    put_d(text, s, c.op, c.d)
+}
+
 fn spell_call(text: &mut [u8], at: usize, c: Call) -> usize
     requires { ⌜ at + widestCall ≤ length (now text) ⌝ }
     ensures { λ r. ⌜ Piece (now (text .entry)) at widestCall (callWords c) r (now (text .exit)) ⌝ }
@@ -402,10 +422,7 @@ fn spell_call(text: &mut [u8], at: usize, c: Call) -> usize
     let p = put_operation(text, at, c.op);
     let q = put_word(text, p, b" caller ");
     let s = put_number(text, q, c.caller);
-    let i = put_a(text, s, c.op, c.a);
-    let j = put_b(text, i, c.op, c.b);
-    let k = put_c(text, j, c.op, c.c);
-    put_d(text, k, c.op, c.d)
+    put_fields(text, s, c)
 }
 
 pub fn put_call(text: &mut [u8], at: usize, c: Call) -> usize
@@ -417,14 +434,22 @@ pub fn put_call(text: &mut [u8], at: usize, c: Call) -> usize
     spell_call(text, at, c)
 }
 
-fn put_value(text: &mut [u8], at: usize, place: bool, value: u32) -> usize
+fn put_plain(text: &mut [u8], at: usize, place: bool, value: u32) -> usize
     requires { ⌜ at + 10 ≤ length (now text) ⌝ }
-    ensures { λ r. ⌜ Piece (now (text .entry)) at 10 (valueWords place value) r (now (text .exit)) ⌝ }
+    ensures { λ r. ⌜ Piece (now (text .entry)) at 10 (cond place (address value) (decimal value)) r (now (text .exit)) ⌝ }
 {
     if place {
         return put_address(text, at, value);
     }
     put_number(text, at, value)
+}
+
+fn put_value(text: &mut [u8], at: usize, place: bool, value: u32) -> usize
+    requires { ⌜ at + 11 ≤ length (now text) ⌝ }
+    ensures { λ r. ⌜ Piece (now (text .entry)) at 11 (valueWords place value) r (now (text .exit)) ⌝ }
+{
+    let p = put_plain(text, at, place, value);
+    put_word(text, p, b"\n")
 }
 
 fn spell_answer(text: &mut [u8], at: usize, place: bool, code: u32, value: u32) -> usize
@@ -434,8 +459,7 @@ fn spell_answer(text: &mut [u8], at: usize, place: bool, code: u32, value: u32) 
     let p = put_word(text, at, b": ");
     let q = put_name(text, p, code);
     let s = put_word(text, q, b" ");
-    let v = put_value(text, s, place, value);
-    put_word(text, v, b"\n")
+    put_value(text, s, place, value)
 }
 
 // The value is a number, or an address.
