@@ -3,13 +3,17 @@ use Prim.Native.Nat.{ℕ, _+_, _-_, _*_, _%_, _^_, _≤_, _<_}
 use native.Mathlib.Nat.{add-sub-cancel-left}
 use native.Mathlib.Omega.{arith}
 use mathlib.Core.Path.{_≡_, refl}
-use mathlib.Core.List.{List, []}
-use lib.ListN.{length, take, drop, length-drop, drop-of-length-le}
+use mathlib.Core.Bool.{Bool, true, false, _&&_}
+use mathlib.Core.Logic.{_≢_}
+use mathlib.Core.List.{List, [], _∷_}
+use lib.Dec.{eqb}
+use borrow.Author.Tests.{ne-eqb}
+use lib.ListN.{length, getD, take, drop, length-drop, drop-of-length-le}
 use lib.Seq.{take-all}
 use Rattle.calls.specs.Calls.{partAt}
 use mir.Syntax.{w32}
 use mir.Val.{Fits}
-use Rattle.explain.specs.Words.{explained, numberAt}
+use Rattle.explain.specs.Words.{isAddress, explained, numberAt}
 
 pub past-end : (number : ℕ) (log : List ℕ) (k code value : ℕ) → length log < 16 * k → explained number [] code value ≡ explained number (partAt log k) code value
 past-end number log k code value h =
@@ -32,3 +36,22 @@ first-number {n} h = omega (arith, h .fits)
 
 pub next-number : (first k : ℕ) {m r : ℕ} → m ≡ numberAt first k → r ≡ (m + 1) % 2 ^ 32 → r ≡ numberAt first (k + 1)
 next-number first k e f = omega (arith, e, f)
+
+-- ---- whether a value is an address
+
+pub of-another : (bs : List ℕ) (code : ℕ) → code ≢ 2 → false ≡ isAddress bs code
+unfolding isAddress
+of-another bs code h = rw (ne-eqb code 2 h) refl
+
+and-false : (b : Bool) → false ≡ (b && false)
+and-false true = refl
+and-false false = refl
+
+pub of-nothing : (bs : List ℕ) (code : ℕ) → length bs ≡ 0 → false ≡ isAddress bs code
+unfolding isAddress
+of-nothing [] code h = and-false (eqb code 2)
+of-nothing (x ∷ bs) code h = absurd (omega arith)
+
+pub of-a-check : (bs : List ℕ) (code : ℕ) → code ≡ 2 → eqb (getD bs 0 0) 3 ≡ isAddress bs code
+unfolding isAddress
+of-a-check bs code h = rw h refl

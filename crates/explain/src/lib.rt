@@ -1,23 +1,28 @@
 // A log and its answers in words: what replay prints for people.
 // Promised of `put_explained`: for each of the first n parts of a log one line, its number, the call and its answer in the words of `words`,
 // as specs/Words.antt has them; how many bytes they have; what lies behind them stays. The refusals are those of `lines`.
+ghost use mathlib.Core.Path.{_≡_};
 ghost use Prim.Native.Nat.{_+_, _*_, _≤_};
 ghost use lib.ListN.{length};
 ghost use Rattle.answer.specs.Stores.{cat};
 ghost use Rattle.lines.specs.Lines.{Lines};
 ghost use Rattle.lines.specs.Steps.{Piece};
 ghost use Rattle.calls.specs.Calls.{partAt};
-ghost use Rattle.explain.specs.Words.{cutOff, partWords, numeral, explained, explainedAt};
+ghost use Rattle.words.specs.Words.{widestCall};
+ghost use Rattle.explain.specs.Words.{cutOff, partWords, numeral, isAddress, explained, explainedAt, longestLine};
 use lines::Put;
 
-// How many bytes a call has, and the longest line.
+// How many bytes a call has, and the operation's number of a memory check.
 const CALL: usize = 16;
 
-pub const LONGEST: usize = 166;
+const CHECK: u8 = 3;
+
+// The longest line: its number with a colon and a space, a call, an answer.
+pub const LONGEST: usize = 12 + words::CALL + words::ANSWER;
 
 fn put_cut_off(text: &mut [u8], at: usize, n: u32) -> usize
-    requires { ⌜ at + 130 ≤ length (now text) ⌝ }
-    ensures { λ r. ⌜ Piece (now (text .entry)) at 130 (cutOff n) r (now (text .exit)) ⌝ }
+    requires { ⌜ at + widestCall ≤ length (now text) ⌝ }
+    ensures { λ r. ⌜ Piece (now (text .entry)) at widestCall (cutOff n) r (now (text .exit)) ⌝ }
 {
     let p = at + text::put_word(text, at, b"cut off after ");
     let q = p + text::put_number(text, p, n);
@@ -25,8 +30,8 @@ fn put_cut_off(text: &mut [u8], at: usize, n: u32) -> usize
 }
 
 fn put_part(text: &mut [u8], at: usize, bytes: &[u8]) -> usize
-    requires { ⌜ at + 130 ≤ length (now text) ⌝ }
-    ensures { λ r. ⌜ Piece (now (text .entry)) at 130 (partWords (now (bytes .entry))) r (now (text .exit)) ⌝ }
+    requires { ⌜ at + widestCall ≤ length (now text) ⌝ }
+    ensures { λ r. ⌜ Piece (now (text .entry)) at widestCall (partWords (now (bytes .entry))) r (now (text .exit)) ⌝ }
 {
     if bytes.len() < CALL {
         return put_cut_off(text, at, bytes.len() as u32);
@@ -42,13 +47,26 @@ fn put_numeral(text: &mut [u8], at: usize, number: u32) -> usize
     p + text::put_word(text, p, b": ")
 }
 
+// Whether a part's value is an address: that of a memory check that is EPERM.
+fn is_address(bytes: &[u8], code: u32) -> bool
+    ensures { λ r. ⌜ r ≡ isAddress (now (bytes .entry)) code ⌝ }
+{
+    if code != answer::EPERM {
+        return false;
+    }
+    if bytes.len() == 0 {
+        return false;
+    }
+    bytes[0] == CHECK
+}
+
 fn put_line(text: &mut [u8], at: usize, number: u32, bytes: &[u8], code: u32, value: u32) -> usize
-    requires { ⌜ at + 166 ≤ length (now text) ⌝ }
-    ensures { λ r. ⌜ Piece (now (text .entry)) at 166 (explained number (now (bytes .entry)) code value) r (now (text .exit)) ⌝ }
+    requires { ⌜ at + longestLine ≤ length (now text) ⌝ }
+    ensures { λ r. ⌜ Piece (now (text .entry)) at longestLine (explained number (now (bytes .entry)) code value) r (now (text .exit)) ⌝ }
 {
     let p = put_numeral(text, at, number);
     let q = put_part(text, p, bytes);
-    words::put_answer(text, q, code, value)
+    words::put_answer(text, q, is_address(bytes, code), code, value)
 }
 
 // The k-th part of a log: sixteen bytes, what is left at the end, or nothing past it.
@@ -61,8 +79,8 @@ fn put_part_at(
     code: u32,
     value: u32,
 ) -> usize
-    requires { ⌜ (at + 166 ≤ length (now text)) × (166 * k ≤ length (now text)) ⌝ }
-    ensures { λ r. ⌜ Piece (now (text .entry)) at 166 (explained number (partAt (now (log .entry)) k) code value) r (now (text .exit)) ⌝ }
+    requires { ⌜ (at + longestLine ≤ length (now text)) × (longestLine * k ≤ length (now text)) ⌝ }
+    ensures { λ r. ⌜ Piece (now (text .entry)) at longestLine (explained number (partAt (now (log .entry)) k) code value) r (now (text .exit)) ⌝ }
 {
     let from = CALL * k;
     if log.len() < from {
@@ -75,8 +93,8 @@ fn put_part_at(
 }
 
 fn put_all(text: &mut [u8], first: u32, log: &[u8], out: &[u32], n: usize) -> usize
-    requires { ⌜ (166 * n ≤ length (now text)) × (2 * n ≤ length (now out)) ⌝ }
-    ensures { λ r. ⌜ Piece (now (text .entry)) 0 (166 * n) (cat (explainedAt first (now (log .entry)) (now (out .entry))) n) r (now (text .exit)) ⌝ }
+    requires { ⌜ (longestLine * n ≤ length (now text)) × (2 * n ≤ length (now out)) ⌝ }
+    ensures { λ r. ⌜ Piece (now (text .entry)) 0 (longestLine * n) (cat (explainedAt first (now (log .entry)) (now (out .entry))) n) r (now (text .exit)) ⌝ }
 {
     let mut at: usize = 0;
     let mut number = first;
@@ -91,7 +109,7 @@ fn put_all(text: &mut [u8], first: u32, log: &[u8], out: &[u32], n: usize) -> us
 
 // The first part's number is `first`.
 pub fn put_explained(first: u32, log: &[u8], out: &[u32], n: usize, text: &mut [u8]) -> Put
-    ensures { λ r. ⌜ Lines (explainedAt first (now (log .entry)) (now (out .entry))) 166 (now (out .entry)) n (now (text .entry)) r (now (text .exit)) ⌝ }
+    ensures { λ r. ⌜ Lines (explainedAt first (now (log .entry)) (now (out .entry))) longestLine (now (out .entry)) n (now (text .entry)) r (now (text .exit)) ⌝ }
 {
     if out.len() / 2 < n {
         return Put {

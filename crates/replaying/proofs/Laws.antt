@@ -14,7 +14,7 @@ use Rattle.lines.specs.declared.Put.{Put}
 use Rattle.text.specs.Text as Word
 use Rattle.text.specs.Text.{ascii}
 use Rattle.words.specs.Placed.{Placed}
-use Rattle.words.specs.Words.{answerWords}
+use Rattle.words.specs.Words.{answerWords, widestAnswer}
 use Rattle.words.specs.Laws.{fits, answer-most}
 use Rattle.lines.specs.Steps.{Piece, piece, loosely, all, _then_}
 use Rattle.lines.specs.Lines.{lineAt, Lines, linesAnswer, textAfter, putWith}
@@ -65,12 +65,12 @@ pub refusal-as : {a b : Bool} (code : ℕ) {before after : List ℕ} {r : Put} �
 refusal-as code {before} {after} {r} e l = subst (λ (w : Bool). Lines (λ _. refusalOf w code) 30 (code ∷ 0 ∷ []) 1 before r after) (sym e) l
 
 pub refusal-words : (code : ℕ) {t t₁ t₂ : List ℕ} {p r : ℕ} → 30 ≤ length t → length t₁ ≡ length t → Word.Put t 0 (ascii "image") p t₁
-    → Placed 24 t₁ p (answerWords code 0) r t₂ → Lines (λ _. refusalOf true code) 30 (code ∷ 0 ∷ []) 1 t (putWith 0 r) t₂
+    → Placed widestAnswer t₁ p (answerWords false code 0) r t₂ → Lines (λ _. refusalOf true code) 30 (code ∷ 0 ∷ []) 1 t (putWith 0 r) t₂
 unfolding refusalOf cat
 refusal-words code {t} {t₁} {t₂} {p} {r} h k w a =
     let image : Piece t 0 5 (ascii "image") p t₁ = rw zero-add at (piece t (ascii "image") t₁ 0 5 p (omega arith) (omega arith) w) in
     let five : p ≡ 5 = image .next in
-    let whole : Piece t 0 29 (ascii "image" ++ answerWords code 0) r t₂ = image then fits 24 (answer-most code 0) (omega arith) a in
+    let whole : Piece t 0 29 (ascii "image" ++ answerWords false code 0) r t₂ = image then fits widestAnswer (answer-most false code 0) (omega arith) a in
     all (λ _. refusalOf true code) 30 (code ∷ 0 ∷ []) 1 t t₂ r (omega arith) (omega arith) (loosely 30 (omega arith) whole)
 
 pub refusal-line : (code : ℕ) {t t′ : List ℕ} {r : Put} → 30 ≤ length t → Lines (lineAt (code ∷ 0 ∷ [])) 22 (code ∷ 0 ∷ []) 1 t r t′

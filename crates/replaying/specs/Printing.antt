@@ -2,7 +2,7 @@
 -- A part is answered by the state that the parts before it left (docs/SPEC.md, 11.1 to 11.3, 11.27 and 11.28).
 use Prim.Native.Nat.{ℕ, _*_}
 use mathlib.Core.Path.{_≡_}
-use mathlib.Core.Bool.{Bool, cond, _||_}
+use mathlib.Core.Bool.{Bool, false, cond, _||_}
 use mathlib.Core.List.{List, [], _∷_, _++_}
 use lib.Dec.{eqb, ltb}
 use lib.ListN.{length, drop}
@@ -12,13 +12,13 @@ use Rattle.answer.specs.Answer.{numberOf}
 use Rattle.answer.specs.Stores.{cat}
 use Rattle.text.specs.Text.{ascii}
 use Rattle.lines.specs.declared.Put.{Put}
-use Rattle.lines.specs.Lines.{line, lineAt, putWith}
+use Rattle.lines.specs.Lines.{line, lineAt, putWith, LONGEST}
 use Rattle.tables.specs.State.{State, stateOf}
 use Rattle.rules.specs.Rules.{keepsTest}
 use Rattle.judging.specs.Judge.{heard}
 use Rattle.words.specs.Words.{answerWords}
 use Rattle.calls.specs.Calls.{partAt, partsIn, ranTo, answersTo, objectsLeft, threadsLeft, slotsLeft}
-use Rattle.explain.specs.Words.{explained, explainedAt, numberAt}
+use Rattle.explain.specs.Words.{explained, explainedAt, numberAt, longestLine}
 
 -- ---- lines
 
@@ -36,11 +36,11 @@ linesTo words first s log n = cat (λ k. lineOf words (numberAt first k) (partAt
 
 -- how long a line can be
 abbrev pub longest : Bool → ℕ
-longest words = cond words 166 22
+longest words = cond words longestLine LONGEST
 
 -- the line of a refused image
 unfoldable pub refusalOf : Bool → ℕ → List ℕ
-refusalOf words code = cond words (ascii "image" ++ answerWords code 0) (line code 0)
+refusalOf words code = cond words (ascii "image" ++ answerWords false code 0) (line code 0)
 
 -- ---- a log, printed
 

@@ -204,7 +204,7 @@ pub fn put_refusal(code: u32, words: bool, text: &mut [u8]) -> Put
     }
     if words {
         let p = text::put_word(text, 0, b"image");
-        let bytes = words::put_answer(text, p, code, 0);
+        let bytes = words::put_answer(text, p, false, code, 0);
         return Put { code: OK, bytes };
     }
     let out = [code, 0];

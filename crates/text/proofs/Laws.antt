@@ -1,5 +1,5 @@
 -- Laws of putting bytes into a buffer: a turn of each loop, and a put that has room.
-use Prim.Native.Nat.{ℕ, zero, suc, _+_, _-_, _/_, _%_, _≤_, _<_}
+use Prim.Native.Nat.{ℕ, zero, suc, _+_, _-_, _/_, _%_, _≤_, _<_, max}
 use native.Mathlib.Nat.{add-zero}
 use native.Mathlib.Numerals.{add-one}
 use native.Mathlib.Decide.{decLe}
@@ -11,8 +11,8 @@ use mathlib.Core.List.{List, [], _∷_, _++_}
 use lib.Dec.{leb}
 use lib.ListN.{length, getD, set, drop}
 use lib.Seq.{sets, set-comm, drop-cons}
-use Rattle.text.specs.Laws.{digits-length, decimal-length}
-use Rattle.text.specs.Text.{places, digits, decimal, putAt, putCount, Put}
+use Rattle.text.specs.Laws.{digits-length, decimal-length, hex-digits-length, hex-length}
+use Rattle.text.specs.Text.{places, digits, decimal, hexDigit, hexPlaces, hexDigits, hex, putAt, putCount, Put}
 
 -- the last store can come first: no other one touches its place
 pub sets-last : (xs l : List ℕ) (at d : ℕ) → sets l at (xs ++ (d ∷ [])) ≡ sets (set l (at + length xs) d) at xs
@@ -27,6 +27,14 @@ unfolding digits
 spell-turn l at i w h =
     let j : i ≡ suc (i - 1) = omega arith in
     ap (λ k. sets l at (digits k w)) j ∙ sets-last (digits (i - 1) (w / 10)) l at (48 + w % 10) ∙ rw (digits-length (i - 1) (w / 10)) refl
+
+-- a turn of `spell_hex`
+pub spell-hex-turn : (l : List ℕ) (at i w : ℕ) {d : ℕ} → 0 < i → d ≡ hexDigit (w % 16)
+    → sets l at (hexDigits i w) ≡ sets (set l (at + (i - 1)) d) at (hexDigits (i - 1) (w / 16))
+unfolding hexDigits
+spell-hex-turn l at i w {d} h e =
+    let j : i ≡ suc (i - 1) = omega arith in
+    ap (λ k. sets l at (hexDigits k w)) j ∙ sets-last (hexDigits (i - 1) (w / 16)) l at (hexDigit (w % 16)) ∙ rw (hex-digits-length (i - 1) (w / 16), e) refl
 
 -- a turn of `copy`
 pub copy-turn : (l s : List ℕ) (at i : ℕ) → i < length s → sets l (at + i) (drop i s) ≡ sets (set l (at + i) (getD s i 0)) (at + (i + 1)) (drop (i + 1) s)
@@ -61,3 +69,13 @@ pub number-put : (text after : List ℕ) (at n k : ℕ) → k ≡ places n → l
     → Put text at (decimal n) k after
 unfolding decimal
 number-put text after at n k e h p = has-put text (decimal n) after at k (decimal-length n ∙ sym e) h (p ∙ rw e refl)
+
+pub hex-put : (text after : List ℕ) (at least n k p : ℕ) → p ≡ hexPlaces n → k ≡ max least p → leb (at + k) (length text) ≡ true
+    → after ≡ sets text at (hexDigits k n) → Put text at (hex least n) k after
+unfolding hex
+hex-put text after at least n k p q e h s =
+    let f : k ≡ max least (hexPlaces n) = e ∙ rw q refl in
+    has-put text (hex least n) after at k (hex-length least n ∙ sym f) h (s ∙ rw f refl)
+
+pub no-hex : (text : List ℕ) (at least n k p : ℕ) → p ≡ hexPlaces n → k ≡ max least p → leb (at + k) (length text) ≡ false → Put text at (hex least n) 0 text
+no-hex text at least n k p q e h = no-room text (hex least n) at k (hex-length least n ∙ sym (e ∙ rw q refl)) h

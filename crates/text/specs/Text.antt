@@ -1,5 +1,5 @@
 -- Numbers and words as ASCII bytes, and what it means to put them into a lent buffer.
-use Prim.Native.Nat.{ℕ, zero, suc, _+_, _/_, _%_}
+use Prim.Native.Nat.{ℕ, zero, suc, _+_, _/_, _%_, max}
 use Prim.Native.Char.{Char, code}
 use Prim.Native.String.{String, [] as empty, _∷_ as _then_}
 use mathlib.Core.Path.{_≡_}
@@ -35,6 +35,30 @@ digits (suc k) n = digits k (n / 10) ++ ((48 + n % 10) ∷ [])
 -- a number in decimal: no zeros in front
 unfoldable pub decimal : ℕ → List ℕ
 decimal n = digits (places n) n
+
+-- a digit in base 16: 0 to 9, A to F
+unfoldable pub hexDigit : ℕ → ℕ
+hexDigit d = cond (ltb d 10) (48 + d) (55 + d)
+
+-- how many digits a number below 2^32 has in base 16
+unfoldable pub hexPlaces : ℕ → ℕ
+hexPlaces n =
+    cond (ltb n 16) 1 (
+    cond (ltb n 256) 2 (
+    cond (ltb n 4096) 3 (
+    cond (ltb n 65536) 4 (
+    cond (ltb n 1048576) 5 (
+    cond (ltb n 16777216) 6 (
+    cond (ltb n 268435456) 7 8))))))
+
+-- the last k digits in base 16, the greatest place first
+unfoldable pub hexDigits : ℕ → ℕ → List ℕ
+hexDigits zero n = []
+hexDigits (suc k) n = hexDigits k (n / 16) ++ (hexDigit (n % 16) ∷ [])
+
+-- a number in base 16 with at least so many digits: no more zeros in front than they ask
+unfoldable pub hex : ℕ → ℕ → List ℕ
+hex least n = hexDigits (max least (hexPlaces n)) n
 
 -- the buffer after bytes were put at a place, and how many those were: all of them, or none where they have no room
 unfoldable pub putAt : List ℕ → ℕ → List ℕ → List ℕ

@@ -1,17 +1,17 @@
 -- What the crates above cite of words that were put: where the widest have room they are a piece, and none are wider than that.
-use Prim.Native.Nat.{ℕ, _+_, _-_, _≤_, _<_}
+use Prim.Native.Nat.{ℕ, zero, suc, _+_, _-_, _*_, _%_, _^_, _≤_, _<_, max}
 use native.Mathlib.Omega.{arith}
 use mathlib.Core.Path.{_≡_, refl, _∙_}
 use mathlib.Core.Bool.{Bool, true, false, cond}
-use mathlib.Core.List.{List, [], _++_}
+use mathlib.Core.List.{List, [], _∷_, _++_}
 use lib.Dec.{eqb, ltb}
-use lib.ListN.{length, length-append}
+use lib.ListN.{length, take, drop, length-append, length-take}
 use borrow.Author.Tests.{le-leb, lt-leb}
-use Rattle.text.specs.Text.{ascii, decimal}
-use Rattle.text.specs.Laws.{decimal-most}
+use Rattle.text.specs.Text.{ascii, decimal, hex}
+use Rattle.text.specs.Laws.{decimal-most, hex-most}
 use Rattle.lines.specs.Steps.{Piece}
 use Rattle.decoding.specs.declared.Call.{Call}
-use Rattle.words.specs.Words.{unknown, operation, answerName, field, unused, mode, fieldA, fieldB, fieldC, fieldD, callWords, answerWords}
+use Rattle.words.specs.Words.{before, nth, operationNames, answerNames, typeNames, modeNames, rightsNames, unknown, rank, operation, answerName, address, size, labelled, field, unused, named, type, role, access, rights, home, modeNumber, mode, onHandle, onDomain, fieldA, fieldB, fieldC, fieldD, fields, callWords, valueWords, answerWords, widestOperation, widestField, widestCall, widestAnswer}
 use Rattle.words.specs.Placed.{placeAfter, textAfter, Placed}
 
 -- ---- with room, and without
@@ -56,77 +56,163 @@ word m xs h = record { bound = h }
 number : (n : ℕ) → Most 10 (decimal n)
 number n = record { bound = decimal-most n }
 
--- a word at one number
-named : {m : ℕ} {ys : List ℕ} (n k : ℕ) (xs : List ℕ) → length xs ≤ m → Most m ys → Most m (cond (eqb n k) xs ys)
-named n k xs x y = either (eqb n k) (word _ xs x) y
+looser : {m : ℕ} {xs : List ℕ} (m′ : ℕ) → m ≤ m′ → Most m xs → Most m′ xs
+looser m′ h x = record { bound = omega (arith, x .bound) }
 
-operation-most : (op : ℕ) → Most 20 (operation op)
+-- ---- a row of names
+
+-- the longest name of a row, of whose first m bytes were counted before
+unfoldable pub widest : ℕ → List ℕ → ℕ
+widest m [] = m
+widest m (x ∷ xs) = cond (eqb x 44) (max m (widest 0 xs)) (widest (suc m) xs)
+
+before-step : (t : Bool) (m p w v : ℕ) → suc m + p ≤ v → m + cond t 0 (suc p) ≤ cond t (max m w) v
+before-step true m p w v h = omega arith
+before-step false m p w v h = omega arith
+
+before-most : (m : ℕ) (xs : List ℕ) → m + before xs ≤ widest m xs
+unfolding before widest
+before-most m [] = omega arith
+before-most m (x ∷ xs) = before-step (eqb x 44) m (before xs) (widest 0 xs) (widest (suc m) xs) (before-most (suc m) xs)
+
+rest-step : (t : Bool) (m p v x : ℕ) (xs : List ℕ) → widest 0 (drop (suc p) xs) ≤ v
+    → widest 0 (drop (suc (cond t 0 (suc p))) (x ∷ xs)) ≤ cond t (max m (widest 0 xs)) v
+rest-step true m p v x xs h = omega arith
+rest-step false m p v x xs h = h
+
+rest-most : (m : ℕ) (xs : List ℕ) → widest 0 (drop (suc (before xs)) xs) ≤ widest m xs
+unfolding before widest
+rest-most m [] = omega arith
+rest-most m (x ∷ xs) = rest-step (eqb x 44) m (before xs) (widest (suc m) xs) x xs (rest-most (suc m) xs)
+
+-- no name of a row is longer than its longest
+pub nth-most : (k : ℕ) (xs : List ℕ) → length (nth k xs) ≤ widest 0 xs
+unfolding nth
+nth-most zero xs = rw (length-take (before xs) xs) (omega (arith, before-most 0 xs))
+nth-most (suc k) xs = omega (arith, nth-most k (drop (suc (before xs)) xs), rest-most 0 xs)
+
+-- a name from a row whose longest has so many bytes
+row : (m k : ℕ) (xs : List ℕ) → widest 0 xs ≤ m → Most m (nth k xs)
+row m k xs h = record { bound = omega (arith, nth-most k xs, h) }
+
+pub rank-most : (k : ℕ) → length (nth k operationNames) ≤ widestOperation
+unfolding widest
+rank-most k = row widestOperation k operationNames (omega arith) .bound
+
+pub mode-name-most : (k : ℕ) → length (nth k modeNames) ≤ 23
+unfolding widest
+mode-name-most k = row 23 k modeNames (omega arith) .bound
+
+pub answer-name-most : (k : ℕ) → length (nth k answerNames) ≤ 10
+unfolding widest
+answer-name-most k = row 10 k answerNames (omega arith) .bound
+
+operation-most : (op : ℕ) → Most widestOperation (operation op)
 unfolding operation unknown
-operation-most op =
-    named op 0 _ (omega arith) (named op 1 _ (omega arith) (named op 2 _ (omega arith) (named op 3 _ (omega arith)
-    (named op 4 _ (omega arith) (named op 16 _ (omega arith) (named op 17 _ (omega arith) (named op 18 _ (omega arith)
-    (named op 19 _ (omega arith) (named op 20 _ (omega arith) (named op 21 _ (omega arith) (named op 22 _ (omega arith)
-    (named op 23 _ (omega arith) (named op 24 _ (omega arith) (named op 25 _ (omega arith) (named op 26 _ (omega arith)
-    (named op 27 _ (omega arith) (named op 28 _ (omega arith) (word 10 (ascii "operation ") (omega arith) and number op))))))))))))))))))
+operation-most op = either (ltb (rank op) 18) (record { bound = rank-most (rank op) }) (word 10 (ascii "operation ") (omega arith) and number op)
 
 name-most : (code : ℕ) → Most 10 (answerName code)
 unfolding answerName
-name-most code =
-    named code 0 _ (omega arith) (named code 1 _ (omega arith) (named code 2 _ (omega arith) (named code 3 _ (omega arith)
-    (named code 4 _ (omega arith) (named code 5 _ (omega arith) (named code 6 _ (omega arith) (named code 7 _ (omega arith)
-    (named code 8 _ (omega arith) (named code 9 _ (omega arith) (named code 10 _ (omega arith) (named code 11 _ (omega arith)
-    (named code 12 _ (omega arith) (number code)))))))))))))
+name-most code = either (ltb code 13) (record { bound = answer-name-most code }) (number code)
 
-field-most : (name : List ℕ) (n : ℕ) → length name ≤ 10 → Most 23 (field name n)
+-- ---- fields
+
+address-most : (n : ℕ) → Most 10 (address n)
+unfolding address
+address-most n = word 2 (ascii "0x") (omega arith) and record { bound = hex-most 8 n (omega arith) }
+
+size-most : (n : ℕ) → Most 10 (size n)
+unfolding size
+size-most n = word 2 (ascii "0x") (omega arith) and record { bound = hex-most 1 n (omega arith) }
+
+labelled-most : {xs : List ℕ} (name : List ℕ) → length name ≤ 10 → Most 10 xs → Most widestField (labelled name xs)
+unfolding labelled
+labelled-most name h x =
+    looser widestField (omega arith) (word 2 (ascii ", ") (omega arith) and word 10 name h and word 1 (ascii " ") (omega arith) and x)
+
+field-most : (name : List ℕ) (n : ℕ) → length name ≤ 10 → Most widestField (field name n)
 unfolding field
-field-most name n h = word 2 (ascii ", ") (omega arith) and word 10 name h and word 1 (ascii " ") (omega arith) and number n
+field-most name n h = labelled-most name h (number n)
 
-unused-most : (n : ℕ) → Most 23 (unused n)
+unused-most : (name : List ℕ) (n : ℕ) → length name ≤ 10 → Most widestField (unused name n)
 unfolding unused
-unused-most n = either (eqb n 0) (word 23 [] (omega arith)) (field-most _ n (omega arith))
+unused-most name n h = either (eqb n 0) (word widestField [] (omega arith)) (field-most name n h)
 
-mode-most : (n : ℕ) → Most 23 (mode n)
+named-most : (front names : List ℕ) (many : ℕ) (name : List ℕ) (n : ℕ) → length front ≤ 7 → widest 0 names ≤ 18 → length name ≤ 10
+    → Most widestField (named front names many name n)
+unfolding named
+named-most front names many name n f h g = either (ltb n many) (word 7 front f and row 18 n names h) (field-most name n g)
+
+type-most : (n : ℕ) → Most widestField (type n)
+unfolding type widest
+type-most n = named-most (ascii ", type ") typeNames 16 (ascii "type") n (omega arith) (omega arith) (omega arith)
+
+role-most : (n : ℕ) → Most widestField (role n)
+unfolding role widest
+role-most n = named-most (ascii ", as ") (ascii "user,supervisor") 2 (ascii "supervisor") n (omega arith) (omega arith) (omega arith)
+
+access-most : (n : ℕ) → Most widestField (access n)
+unfolding access widest
+access-most n = named-most (ascii ", ") (ascii "read,write") 2 (ascii "access") n (omega arith) (omega arith) (omega arith)
+
+rights-most : (n : ℕ) → Most widestField (rights n)
+unfolding rights widest
+rights-most n = named-most (ascii ", ") rightsNames 8 (ascii "attr") n (omega arith) (omega arith) (omega arith)
+
+home-most : (n : ℕ) → Most widestField (home n)
+unfolding home
+home-most n = either (eqb n 255) (word widestField (ascii ", no domain") (omega arith)) (field-most _ n (omega arith))
+
+mode-number-most : (n : ℕ) → Most widestField (modeNumber n)
+unfolding modeNumber
+mode-number-most n =
+    either (ltb n 2147483648) (field-most _ n (omega arith)) (word 15 (ascii ", mode -") (omega arith) and number (4294967296 - n))
+
+mode-most : (n : ℕ) → Most widestField (mode n)
 unfolding mode
-mode-most n = either (ltb n 2147483648) (field-most _ n (omega arith)) (word 13 (ascii ", mode -") (omega arith) and number (4294967296 - n))
+mode-most n =
+    let k : ℕ = (n + 1) % 2 ^ 32 in
+    either (ltb k 3) (word 2 (ascii ", ") (omega arith) and record { bound = mode-name-most k }) (mode-number-most n)
 
-a-most : (op n : ℕ) → Most 23 (fieldA op n)
+a-most : (op n : ℕ) → Most widestField (fieldA op n)
 unfolding fieldA
-a-most op n =
-    let f : (xs : List ℕ) → length xs ≤ 10 → Most 23 (field xs n) = λ xs. field-most xs n in
-    let u = unused-most n in
-    either (ltb op 3) (f _ (omega arith)) (either (ltb op 16) u (either (ltb op 24) (f _ (omega arith))
-    (either (ltb op 27) u (either (ltb op 29) (f _ (omega arith)) u))))
+a-most op n = either (onHandle op) (field-most _ n (omega arith)) (either (onDomain op) (field-most _ n (omega arith)) (unused-most _ n (omega arith)))
 
--- a field at one operation
-at : {ys : List ℕ} (op k n : ℕ) (name : List ℕ) → length name ≤ 10 → Most 23 ys → Most 23 (cond (eqb op k) (field name n) ys)
-at op k n name h y = either (eqb op k) (field-most name n h) y
-
-b-most : (op n : ℕ) → Most 23 (fieldB op n)
+b-most : (op n : ℕ) → Most widestField (fieldB op n)
 unfolding fieldB
 b-most op n =
-    at op 0 n _ (omega arith) (at op 1 n _ (omega arith) (at op 3 n _ (omega arith) (at op 16 n _ (omega arith)
-    (at op 18 n _ (omega arith) (at op 23 n _ (omega arith) (at op 24 n _ (omega arith) (at op 25 n _ (omega arith)
-    (at op 26 n _ (omega arith) (at op 27 n _ (omega arith) (at op 28 n _ (omega arith) (unused-most n)))))))))))
+    let f : (xs : List ℕ) → length xs ≤ 10 → Most widestField (field xs n) = λ xs. field-most xs n in
+    let p : (xs : List ℕ) → length xs ≤ 10 → Most widestField (labelled xs (address n)) = λ xs h. labelled-most xs h (address-most n) in
+    either (eqb op 0) (type-most n) (either (eqb op 1) (f _ (omega arith)) (either (eqb op 3) (p _ (omega arith)) (
+    either (eqb op 16) (type-most n) (either (eqb op 18) (f _ (omega arith)) (either (eqb op 23) (f _ (omega arith)) (
+    either (eqb op 24) (f _ (omega arith)) (either (eqb op 25) (f _ (omega arith)) (either (eqb op 26) (f _ (omega arith)) (
+    either (eqb op 27) (p _ (omega arith)) (either (eqb op 28) (p _ (omega arith)) (unused-most _ n (omega arith))))))))))))
 
-c-most : (op n : ℕ) → Most 23 (fieldC op n)
+c-most : (op n : ℕ) → Most widestField (fieldC op n)
 unfolding fieldC
 c-most op n =
-    either (eqb op 0) (mode-most n)
-    (at op 3 n _ (omega arith) (at op 23 n _ (omega arith) (at op 25 n _ (omega arith)
-    (at op 26 n _ (omega arith) (at op 27 n _ (omega arith) (at op 28 n _ (omega arith)
-    (unused-most n)))))))
+    let s : (xs : List ℕ) → length xs ≤ 10 → Most widestField (labelled xs (size n)) = λ xs h. labelled-most xs h (size-most n) in
+    either (eqb op 0) (mode-most n) (either (eqb op 3) (s _ (omega arith)) (either (eqb op 23) (role-most n) (
+    either (eqb op 25) (field-most _ n (omega arith)) (either (eqb op 26) (home-most n) (
+    either (eqb op 27) (s _ (omega arith)) (either (eqb op 28) (s _ (omega arith)) (unused-most _ n (omega arith))))))))
 
-d-most : (op n : ℕ) → Most 23 (fieldD op n)
+d-most : (op n : ℕ) → Most widestField (fieldD op n)
 unfolding fieldD
-d-most op n = at op 3 n _ (omega arith) (at op 27 n _ (omega arith) (unused-most n))
+d-most op n = either (eqb op 3) (access-most n) (either (eqb op 27) (rights-most n) (unused-most _ n (omega arith)))
 
-pub call-most : (c : Call) → length (callWords c) ≤ 130
+fields-most : (c : Call) → Most (4 * widestField) (fields c)
+unfolding fields
+fields-most c = a-most (c .op) (c .a) and b-most (c .op) (c .b) and c-most (c .op) (c .c) and d-most (c .op) (c .d)
+
+pub call-most : (c : Call) → length (callWords c) ≤ widestCall
 unfolding callWords
-call-most c =
-    (operation-most (c .op) and word 8 (ascii " caller ") (omega arith) and number (c .caller)
-    and a-most (c .op) (c .a) and b-most (c .op) (c .b) and c-most (c .op) (c .c) and d-most (c .op) (c .d)) .bound
+call-most c = (operation-most (c .op) and word 8 (ascii " caller ") (omega arith) and number (c .caller) and fields-most c) .bound
 
-pub answer-most : (code value : ℕ) → length (answerWords code value) ≤ 24
+value-most : (place : Bool) (value : ℕ) → Most 11 (valueWords place value)
+unfolding valueWords
+value-most place value = either place (address-most value) (number value) and word 1 (ascii "\n") (omega arith)
+
+pub answer-most : (place : Bool) (code value : ℕ) → length (answerWords place code value) ≤ widestAnswer
 unfolding answerWords
-answer-most code value =
-    (word 2 (ascii ": ") (omega arith) and name-most code and word 1 (ascii " ") (omega arith) and number value and word 1 (ascii "\n") (omega arith)) .bound
+answer-most place code value =
+    (word 2 (ascii ": ") (omega arith) and name-most code and word 1 (ascii " ") (omega arith) and value-most place value) .bound

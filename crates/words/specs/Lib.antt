@@ -1,3 +1,4 @@
 pub mod Words
+pub mod Row
 pub mod Placed
 pub mod Laws

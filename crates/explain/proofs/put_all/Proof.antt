@@ -1,3 +1,4 @@
+use Rattle.explain.specs.Words.{longestLine}
 use borrow.Author.Needs.{needs}
 use mathlib.Core.Path.{_≡_, refl, _∙_}
 use Prim.Native.Nat.{_-_, _*_, _≤_}
@@ -17,14 +18,14 @@ use Rattle.std.proofs.num.wrapping_add_u32.Reads as wrapping-add-u32-reads
 
 abbrev Inv-loop : tie.InvT-loop
 Inv-loop text₀ first log out n at₀ number₀ k₀ text at number k =
-    (k ≤ n) × ((length text ≡ length text₀) × (Piece text₀ 0 (166 * k) (cat (explainedAt first log out) k) at text × (number ≡ numberAt first k)))
+    (k ≤ n) × ((length text ≡ length text₀) × (Piece text₀ 0 (longestLine * k) (cat (explainedAt first log out) k) at text × (number ≡ numberAt first k)))
 
 abbrev μ-loop : tie.MeasureT-loop
 μ-loop text₀ first log out n at₀ number₀ k₀ text at number k = n - k
 
 -- src/lib.rt:91:5
 loop-holds : tie.Need-loop-holds Inv-loop μ-loop
-loop-holds c = (omega arith, (refl, (none-put (explainedAt (c .before .before .before .args .first) ((c .before .before .before .args .log) .now) ((c .before .before .before .args .out) .now)) 166 ((c .before .before .before .args .text) .now), first-number (c .before .before .before .fits .first))))
+loop-holds c = (omega arith, (refl, (none-put (explainedAt (c .before .before .before .args .first) ((c .before .before .before .args .log) .now) ((c .before .before .before .args .out) .now)) longestLine ((c .before .before .before .args .text) .now), first-number (c .before .before .before .fits .first))))
 
 -- src/lib.rt:92:56
 mul-put-part-at : tie.Need-mul-put-part-at Inv-loop μ-loop
@@ -72,7 +73,7 @@ loop-less c = omega arith
 
 -- src/lib.rt:91:5
 loop-again : tie.Need-loop-again Inv-loop μ-loop
-loop-again c = (omega arith, ((c .before .before .before .put-part-at .kept) .0 ∙ (c .before .before .before .before .before .before .before .before .loop .inv) .1 .0, (one-more (explainedAt (c .before .before .before .before .before .before .before .before .before .before .before .before .args .first) ((c .before .before .before .before .before .before .before .before .before .before .before .before .args .log) .now) ((c .before .before .before .before .before .before .before .before .before .before .before .before .args .out) .now)) 166 ((c .before .before .before .before .before .before .before .before .loop .inv) .1 .1 .0) (rw ((c .before .before .before .before .before .before .before .before .loop .inv) .1 .1 .1) at (c .before .before .before .put-part-at .ensures)), next-number _ _ ((c .before .before .before .before .before .before .before .before .loop .inv) .1 .1 .1) (c .wrapping-add-u32 .ensures))))
+loop-again c = (omega arith, ((c .before .before .before .put-part-at .kept) .0 ∙ (c .before .before .before .before .before .before .before .before .loop .inv) .1 .0, (one-more (explainedAt (c .before .before .before .before .before .before .before .before .before .before .before .before .args .first) ((c .before .before .before .before .before .before .before .before .before .before .before .before .args .log) .now) ((c .before .before .before .before .before .before .before .before .before .before .before .before .args .out) .now)) longestLine ((c .before .before .before .before .before .before .before .before .loop .inv) .1 .1 .0) (rw ((c .before .before .before .before .before .before .before .before .loop .inv) .1 .1 .1) at (c .before .before .before .put-part-at .ensures)), next-number _ _ ((c .before .before .before .before .before .before .before .before .loop .inv) .1 .1 .1) (c .wrapping-add-u32 .ensures))))
 
 -- src/lib.rt:84:1
 same-length : tie.Need-same-length Inv-loop μ-loop

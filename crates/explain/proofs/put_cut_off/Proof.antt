@@ -1,3 +1,4 @@
+use Rattle.words.specs.Words.{widestCall}
 use native.Mathlib.Omega.{arith}
 use Rattle.text.specs.Laws.{number-most, put-most}
 use Rattle.lines.specs.Steps.{piece, number-piece, loosely, _then_}
@@ -52,7 +53,7 @@ unfolding cutOff
 returns c =
     let word = put-most _ _ _ _ _ (c .before .before .before .before .before .before .before .before .before .before .before .put-word .ensures) in
     let number = number-most _ _ _ _ _ (c .before .before .before .before .before .before .before .put-number .ensures) in
-    loosely 130 (omega arith)
+    loosely widestCall (omega arith)
     (piece _ _ _ _ 14 _ (omega arith) (omega arith) (c .before .before .before .before .before .before .before .before .before .before .before .put-word .ensures)
     then number-piece _ _ _ _ _ (omega (arith, word)) (c .before .before .before .before .before .before .before .put-number .ensures)
     then piece _ _ _ _ 6 _ (omega arith) (omega (arith, word, number)) (c .before .before .put-word2 .ensures))

@@ -1,3 +1,4 @@
+use Rattle.words.specs.Words.{widestCall}
 use native.Mathlib.Omega.{arith}
 use Rattle.lines.specs.Steps.{known-as, _then_}
 use Rattle.words.specs.Laws.{fits, call-most, answer-most}
@@ -46,7 +47,7 @@ same-length-2 c = search needs
 -- src/lib.rt:27:1
 returns-2 : tie.Need-returns-2
 unfolding partWords
-returns-2 c = known-as (ap callWords (c .before .before .before .decode-bytewise .ensures) ∙ search tests) (fits 130 (call-most _) (omega arith) (c .before .before .put-call .ensures))
+returns-2 c = known-as (ap callWords (c .before .before .before .decode-bytewise .ensures) ∙ search tests) (fits widestCall (call-most _) (omega arith) (c .before .before .put-call .ensures))
 
 pub put-part-spec : {M : Type 1} → statement M
 put-part-spec =

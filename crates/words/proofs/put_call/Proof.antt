@@ -1,3 +1,4 @@
+use Rattle.words.specs.Words.{widestCall}
 use Rattle.words.specs.Laws.{was-put, nothing-put}
 use Rattle.words.proofs.Pieces.{granted, refused}
 use borrow.Author.Needs.{needs}
@@ -11,7 +12,7 @@ same-length : tie.Need-same-length
 same-length c = search needs
 
 returns : tie.Need-returns
-returns c = nothing-put 130 _ (refused _ _ (c .before .has-room .ensures) (c .if1 .taken))
+returns c = nothing-put widestCall _ (refused _ _ (c .before .has-room .ensures) (c .if1 .taken))
 
 spell-call-requires : tie.Need-spell-call-requires
 spell-call-requires c κs = granted _ _ (c .before .before .has-room .ensures) (c .before .if1 .left)
@@ -21,7 +22,7 @@ same-length-2 c = search needs
 
 returns-2 : tie.Need-returns-2
 returns-2 c =
-    was-put 130 (granted _ _ (c .before .before .before .before .before .has-room .ensures) (c .before .before .before .before .if1 .left))
+    was-put widestCall (granted _ _ (c .before .before .before .before .before .has-room .ensures) (c .before .before .before .before .if1 .left))
     (c .before .before .spell-call .ensures)
 
 pub put-call-spec : {M : Type 1} → statement M
