@@ -12,7 +12,7 @@ use Rattle.decoding.specs.declared.Call.{Call}
 
 -- ---- a row of names, with commas between them
 
--- how many bytes stand before the first comma
+-- how many bytes stand before the first comma, which is 44
 unfoldable pub before : List ℕ → ℕ
 before [] = 0
 before (x ∷ xs) = cond (eqb x 44) 0 (suc (before xs))
@@ -37,7 +37,7 @@ typeNames = ascii "Any,Thread,Sem,Mutex,CondVar,MsgQ,Stack,Pipe,Timer,Event,MemS
 abbrev pub modeNames : List ℕ
 modeNames = ascii "must not be initialised,must be initialised,initialised or not"
 
--- 1 is the right to read, 2 to write, 4 to execute; without the first there are none
+-- 1 read, 2 write, 4 execute: 0 to 7, of which those without the 1 are no rights
 abbrev pub rightsNames : List ℕ
 rightsNames = ascii "attr 0,r--,attr 2,rw-,attr 4,r-x,attr 6,rwx"
 
@@ -93,7 +93,7 @@ rights n = named (ascii ", ") rightsNames 8 (ascii "attr") n
 unfoldable pub home : ℕ → List ℕ
 home n = cond (eqb n 255) (ascii ", no domain") (field (ascii "domain") n)
 
--- a mode is 32 bits with a sign
+-- a mode is 32 bits with a sign; the names begin with -1
 unfoldable pub modeNumber : ℕ → List ℕ
 modeNumber n = cond (ltb n 2147483648) (field (ascii "mode") n) (ascii ", mode -" ++ decimal (4294967296 - n))
 
@@ -147,7 +147,7 @@ fields c = fieldA (c .op) (c .a) ++ fieldB (c .op) (c .b) ++ fieldC (c .op) (c .
 unfoldable pub callWords : Call → List ℕ
 callWords c = operation (c .op) ++ ascii " caller " ++ decimal (c .caller) ++ fields c
 
--- the value is a number, or an address
+-- the value is a number, or an address; it ends the line
 unfoldable pub valueWords : Bool → ℕ → List ℕ
 valueWords place value = cond place (address value) (decimal value) ++ ascii "\n"
 
