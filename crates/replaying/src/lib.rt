@@ -18,6 +18,7 @@ ghost use Rattle.replaying.specs.Feeding.{cutAt, FedIs};
 use answer::OK;
 use answer::ROOM;
 use answer::VALUE;
+use calls::Ran;
 use lines::Put;
 
 // How many bytes a call has.
@@ -66,6 +67,13 @@ fn put_text(first: u32, log: &[u8], out: &[u32], n: usize, words: bool, text: &m
     lines::put_lines(out, n, text)
 }
 
+// A line for every answer of a run.
+fn put_ran(first: u32, log: &[u8], out: &[u32], ran: Ran, words: bool, text: &mut [u8]) -> Put
+    ensures { λ r. ⌜ Lines (lineIn words first (now (log .entry)) (now (out .entry))) (longest words) (now (out .entry)) (ran .answers) (now (text .entry)) r (now (text .exit)) ⌝ }
+{
+    put_text(first, log, out, ran.answers, words, text)
+}
+
 // A log whose lines have no room: that is said of a state only.
 fn without_room(objects: &[u64], threads: &[u32], slots: &[u32]) -> Put
     ensures { λ r. ⌜ r ≡ record { code = cond (keepsTest (now (objects .entry)) (now (threads .entry)) (now (slots .entry))) 11 9; bytes = 0 } ⌝ }
@@ -105,7 +113,7 @@ fn print(
             bytes: 0,
         };
     }
-    put_text(first, log, out, ran.answers, words, text)
+    put_ran(first, log, out, ran, words, text)
 }
 
 fn cut_at(n: usize, last: bool) -> usize

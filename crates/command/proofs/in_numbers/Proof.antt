@@ -13,19 +13,19 @@ use Rattle.command.proofs.every.Reads as every-reads
 
 -- src/lib.rt:401:9
 slice-aggregate-every : tie.Need-slice-aggregate-every
-slice-aggregate-every c = sym (length-replicate {A = ℕ} _ 0)
+slice-aggregate-every c = sym (length-replicate {A = ℕ} 262144 0)
 
 -- src/lib.rt:402:9
 slice-aggregate-every-2 : tie.Need-slice-aggregate-every-2
-slice-aggregate-every-2 c = sym (length-replicate {A = ℕ} _ 0)
+slice-aggregate-every-2 c = sym (length-replicate {A = ℕ} 32768 0)
 
 -- src/lib.rt:403:9
 slice-aggregate-every-3 : tie.Need-slice-aggregate-every-3
-slice-aggregate-every-3 c = sym (length-replicate {A = ℕ} _ 0)
+slice-aggregate-every-3 c = sym (length-replicate {A = ℕ} 360448 0)
 
 -- src/lib.rt:397:5
 every-requires : tie.Need-every-requires
-every-requires c κs = ((c .before .before .before .before .before .before .before .before .before .pre), roomy _ 16384 (omega arith) (sym (length-replicate {A = ℕ} _ 0)) (sym (length-replicate {A = ℕ} _ 0)) (sym (length-replicate {A = ℕ} _ 0)))
+every-requires c κs = ((c .before .before .before .before .before .before .before .before .before .pre), roomy _ 16384 (omega arith) (sym (length-replicate {A = ℕ} 262144 0)) (sym (length-replicate {A = ℕ} 32768 0)) (sym (length-replicate {A = ℕ} 360448 0)))
 
 -- src/lib.rt:390:1
 same-length : tie.Need-same-length

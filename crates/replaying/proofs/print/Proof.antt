@@ -16,7 +16,7 @@ use Rattle.replaying.proofs.print.Lts as lts
 use Rattle.calls.proofs.run.Reads as run-reads
 use Rattle.replaying.proofs.has_room.Reads as has-room-reads
 use Rattle.replaying.proofs.longest_line.Reads as longest-line-reads
-use Rattle.replaying.proofs.put_text.Reads as put-text-reads
+use Rattle.replaying.proofs.put_ran.Reads as put-ran-reads
 use Rattle.replaying.proofs.without_room.Reads as without-room-reads
 
 -- src/lib.rt:99:29
@@ -72,8 +72,8 @@ returns-2 : tie.Need-returns-2
 returns-2 c = print-refused (c .before .before .before .before .before .before .before .before .before .before .before .before .before .before .before .before .before .before .before .before .before .before .before .before .args .words) (c .before .before .before .before .before .before .before .before .before .before .before .before .before .before .before .before .before .before .before .before .before .before .before .before .args .first) _ _ _ ((c .before .before .before .before .before .before .before .before .before .before .before .before .before .before .before .before .before .before .before .before .before .before .before .before .args .log) .now) _ _ (has-its-room (c .before .before .before .before .before .before .before .before .before .before .before .before .before .before .before .before .before .before .before .before .before .before .before .before .args .words) ((c .before .before .before .before .before .before .before .before .before .before .before .before .before .before .before .before .before .before .before .before .before .before .before .before .args .log) .now) ((c .before .before .before .before .before .before .before .before .before .before .before .before .before .before .before .before .before .before .before .before .before .before .before .before .args .text) .now) (c .before .before .before .before .before .before .before .before .before .before .before .before .before .before .before .before .has-room .ensures) (c .before .before .before .before .before .before .before .before .before .before .before .before .before .before .before .before .before .longest-line .ensures) (c .before .before .before .before .before .before .before .before .before .before .before .before .before .before .before .if1 .left)) (c .before .before .before .before .before .before .before .before .before .before .run .ensures) (c .if2 .taken)
 
 -- src/lib.rt:109:5
-put-text-requires : tie.Need-put-text-requires
-put-text-requires c κs = search needs
+put-ran-requires : tie.Need-put-ran-requires
+put-ran-requires c κs = search needs
 
 -- src/lib.rt:87:1
 same-length-8 : tie.Need-same-length-8
@@ -97,7 +97,7 @@ same-length-12 c = search needs
 
 -- src/lib.rt:87:1
 returns-3 : tie.Need-returns-3
-returns-3 c = print-done (c .before .before .before .before .before .before .before .before .before .before .before .before .before .before .before .before .before .before .before .before .before .before .before .before .before .before .before .before .before .args .words) (c .before .before .before .before .before .before .before .before .before .before .before .before .before .before .before .before .before .before .before .before .before .before .before .before .before .before .before .before .before .args .first) _ _ _ ((c .before .before .before .before .before .before .before .before .before .before .before .before .before .before .before .before .before .before .before .before .before .before .before .before .before .before .before .before .before .args .log) .now) _ _ (has-its-room (c .before .before .before .before .before .before .before .before .before .before .before .before .before .before .before .before .before .before .before .before .before .before .before .before .before .before .before .before .before .args .words) ((c .before .before .before .before .before .before .before .before .before .before .before .before .before .before .before .before .before .before .before .before .before .before .before .before .before .before .before .before .before .args .log) .now) ((c .before .before .before .before .before .before .before .before .before .before .before .before .before .before .before .before .before .before .before .before .before .before .before .before .before .before .before .before .before .args .text) .now) (c .before .before .before .before .before .before .before .before .before .before .before .before .before .before .before .before .before .before .before .before .before .has-room .ensures) (c .before .before .before .before .before .before .before .before .before .before .before .before .before .before .before .before .before .before .before .before .before .before .longest-line .ensures) (c .before .before .before .before .before .before .before .before .before .before .before .before .before .before .before .before .before .before .before .before .if1 .left)) (c .before .before .before .before .before .before .before .before .before .before .before .before .before .before .before .run .ensures) (c .before .before .before .before .before .if2 .left) (c .before .before .put-text .ensures)
+returns-3 c = print-done (c .before .before .before .before .before .before .before .before .before .before .before .before .before .before .before .before .before .before .before .before .before .before .before .before .before .before .before .before .before .args .words) (c .before .before .before .before .before .before .before .before .before .before .before .before .before .before .before .before .before .before .before .before .before .before .before .before .before .before .before .before .before .args .first) _ _ _ ((c .before .before .before .before .before .before .before .before .before .before .before .before .before .before .before .before .before .before .before .before .before .before .before .before .before .before .before .before .before .args .log) .now) _ _ (has-its-room (c .before .before .before .before .before .before .before .before .before .before .before .before .before .before .before .before .before .before .before .before .before .before .before .before .before .before .before .before .before .args .words) ((c .before .before .before .before .before .before .before .before .before .before .before .before .before .before .before .before .before .before .before .before .before .before .before .before .before .before .before .before .before .args .log) .now) ((c .before .before .before .before .before .before .before .before .before .before .before .before .before .before .before .before .before .before .before .before .before .before .before .before .before .before .before .before .before .args .text) .now) (c .before .before .before .before .before .before .before .before .before .before .before .before .before .before .before .before .before .before .before .before .before .has-room .ensures) (c .before .before .before .before .before .before .before .before .before .before .before .before .before .before .before .before .before .before .before .before .before .before .longest-line .ensures) (c .before .before .before .before .before .before .before .before .before .before .before .before .before .before .before .before .before .before .before .before .if1 .left)) (c .before .before .before .before .before .before .before .before .before .before .before .before .before .before .before .run .ensures) (c .before .before .before .before .before .if2 .left) (c .before .before .put-ran .ensures)
 
 pub print-spec : {M : Type 1} → statement M
 print-spec =
@@ -116,7 +116,7 @@ print-spec =
     same-length-6
     same-length-7
     returns-2
-    put-text-requires
+    put-ran-requires
     same-length-8
     same-length-9
     same-length-10
