@@ -11,11 +11,10 @@ use lib.Dec.{leb, eqb}
 use lib.ListN.{length, getD, take, drop, length-drop, length-take, drop-of-length-le}
 use lib.Seq.{drop-cons, drop-drop}
 use borrow.Author.Tests.{lt-ltb, le-ltb, leb-true, leb-false, not-true, not-false, eq-eqb, ne-eqb}
-use Rattle.answer.specs.Tests.{gt-eqb, lt-eqb}
 use Rattle.lines.specs.Steps.{Piece, known-as, loosely, piece, _then_}
 use Rattle.text.specs.Text.{ascii, decimal, hex, Put}
 use Rattle.text.specs.Laws.{hex-most, put-most}
-use Rattle.words.specs.Words.{before, nth, operationNames, modeNames, unknown, rank, operation, unused, modeNumber, mode, fieldB, widestField}
+use Rattle.words.specs.Words.{before, nth, operationNames, modeNames, unknown, rank, operation, modeNumber, mode, widestField}
 use Rattle.words.specs.Row.{Begins, Follows}
 
 -- nothing is put
@@ -118,44 +117,6 @@ unfolding modeNumber
 below-zero n h g =
     let e : 4294967295 - n + 1 ≡ 4294967296 - n = omega arith in
     rw (e, le-ltb n 2147483648 h) refl
-
--- ---- where the field b is not used
-
-module _ (op n : ℕ) where
-  pub open-unused : op < 16 → op ≢ 0 → op ≢ 1 → op ≢ 3 → unused (ascii "unused b") n ≡ fieldB op n
-  unfolding fieldB
-  open-unused h a b c =
-      let m : (k : ℕ) → 16 ≤ k → eqb op k ≡ false = λ k l. lt-eqb op k (omega arith) in
-      rw (
-        ne-eqb op 0 a,
-        ne-eqb op 1 b,
-        ne-eqb op 3 c,
-        m 16 (omega arith),
-        m 18 (omega arith),
-        m 23 (omega arith),
-        m 24 (omega arith),
-        m 25 (omega arith),
-        m 26 (omega arith),
-        m 27 (omega arith),
-        m 28 (omega arith),
-      ) refl
-
-  pub other-unused : 16 ≤ op → op ≢ 16 → op ≢ 18 → op ≢ 23 → op ≢ 24 → op ≢ 25 → op ≢ 26 → op ≢ 27 → op ≢ 28 → unused (ascii "unused b") n ≡ fieldB op n
-  unfolding fieldB
-  other-unused h a b c d e f g i =
-      rw (
-        gt-eqb op 0 (omega arith),
-        gt-eqb op 1 (omega arith),
-        gt-eqb op 3 (omega arith),
-        ne-eqb op 16 a,
-        ne-eqb op 18 b,
-        ne-eqb op 23 c,
-        ne-eqb op 24 d,
-        ne-eqb op 25 e,
-        ne-eqb op 26 f,
-        ne-eqb op 27 g,
-        ne-eqb op 28 i,
-      ) refl
 
 -- ---- room, as `has_room` says it
 

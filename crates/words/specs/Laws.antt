@@ -11,7 +11,7 @@ use Rattle.text.specs.Text.{ascii, decimal, hex}
 use Rattle.text.specs.Laws.{decimal-most, hex-most}
 use Rattle.lines.specs.Steps.{Piece}
 use Rattle.decoding.specs.declared.Call.{Call}
-use Rattle.words.specs.Words.{before, nth, operationNames, answerNames, typeNames, modeNames, rightsNames, unknown, rank, operation, answerName, address, size, labelled, field, unused, named, type, role, access, rights, home, modeNumber, mode, onHandle, onDomain, fieldA, fieldB, fieldC, fieldD, fields, callWords, valueWords, answerWords, widestOperation, widestField, widestCall, widestAnswer}
+use Rattle.words.specs.Words.{before, nth, operationNames, answerNames, typeNames, modeNames, rightsNames, unknown, rank, operation, answerName, address, size, labelled, field, unused, named, type, role, access, rights, home, modeNumber, mode, onHandle, onThread, onDomain, fieldA, otherB, fieldB, otherC, fieldC, fieldD, fields, callWords, valueWords, answerWords, widestOperation, widestField, widestCall, widestAnswer}
 use Rattle.words.specs.Placed.{placeAfter, textAfter, Placed}
 
 -- ---- with room, and without
@@ -178,23 +178,31 @@ a-most : (op n : ℕ) → Most widestField (fieldA op n)
 unfolding fieldA
 a-most op n = either (onHandle op) (field-most _ n (omega arith)) (either (onDomain op) (field-most _ n (omega arith)) (unused-most _ n (omega arith)))
 
+place-most : (name : List ℕ) (n : ℕ) → length name ≤ 10 → Most widestField (labelled name (address n))
+place-most name n h = labelled-most name h (address-most n)
+
+extent-most : (name : List ℕ) (n : ℕ) → length name ≤ 10 → Most widestField (labelled name (size n))
+extent-most name n h = labelled-most name h (size-most n)
+
+other-b-most : (op n : ℕ) → Most widestField (otherB op n)
+unfolding otherB
+other-b-most op n = either (onThread op) (field-most _ n (omega arith)) (either (onDomain op) (place-most _ n (omega arith)) (unused-most _ n (omega arith)))
+
 b-most : (op n : ℕ) → Most widestField (fieldB op n)
 unfolding fieldB
 b-most op n =
-    let f : (xs : List ℕ) → length xs ≤ 10 → Most widestField (field xs n) = λ xs. field-most xs n in
-    let p : (xs : List ℕ) → length xs ≤ 10 → Most widestField (labelled xs (address n)) = λ xs h. labelled-most xs h (address-most n) in
-    either (eqb op 0) (type-most n) (either (eqb op 1) (f _ (omega arith)) (either (eqb op 3) (p _ (omega arith)) (
-    either (eqb op 16) (type-most n) (either (eqb op 18) (f _ (omega arith)) (either (eqb op 23) (f _ (omega arith)) (
-    either (eqb op 24) (f _ (omega arith)) (either (eqb op 25) (f _ (omega arith)) (either (eqb op 26) (f _ (omega arith)) (
-    either (eqb op 27) (p _ (omega arith)) (either (eqb op 28) (p _ (omega arith)) (unused-most _ n (omega arith))))))))))))
+    either (eqb op 0) (type-most n) (either (eqb op 1) (field-most _ n (omega arith)) (either (eqb op 3) (place-most _ n (omega arith)) (
+    either (eqb op 16) (type-most n) (either (eqb op 18) (field-most _ n (omega arith)) (either (eqb op 25) (field-most _ n (omega arith)) (other-b-most op n))))))
+
+other-c-most : (op n : ℕ) → Most widestField (otherC op n)
+unfolding otherC
+other-c-most op n = either (onDomain op) (extent-most _ n (omega arith)) (unused-most _ n (omega arith))
 
 c-most : (op n : ℕ) → Most widestField (fieldC op n)
 unfolding fieldC
 c-most op n =
-    let s : (xs : List ℕ) → length xs ≤ 10 → Most widestField (labelled xs (size n)) = λ xs h. labelled-most xs h (size-most n) in
-    either (eqb op 0) (mode-most n) (either (eqb op 3) (s _ (omega arith)) (either (eqb op 23) (role-most n) (
-    either (eqb op 25) (field-most _ n (omega arith)) (either (eqb op 26) (home-most n) (
-    either (eqb op 27) (s _ (omega arith)) (either (eqb op 28) (s _ (omega arith)) (unused-most _ n (omega arith))))))))
+    either (eqb op 0) (mode-most n) (either (eqb op 3) (extent-most _ n (omega arith)) (either (eqb op 23) (role-most n) (
+    either (eqb op 25) (field-most _ n (omega arith)) (either (eqb op 26) (home-most n) (other-c-most op n)))))
 
 d-most : (op n : ℕ) → Most widestField (fieldD op n)
 unfolding fieldD

@@ -102,15 +102,21 @@ mode n = cond (ltb ((n + 1) % 2 ^ 32) 3) (ascii ", " ++ nth ((n + 1) % 2 ^ 32) m
 
 -- ---- the fields of an operation
 
--- a is a handle, or a domain
+-- the operations on a handle, on a thread and on a domain
 unfoldable pub onHandle : ℕ → Bool
 onHandle op = cond (ltb op 3) true (cond (ltb op 16) false (ltb op 24))
+
+unfoldable pub onThread : ℕ → Bool
+onThread op = cond (eqb op 23) true (cond (eqb op 24) true (eqb op 26))
 
 unfoldable pub onDomain : ℕ → Bool
 onDomain op = cond (ltb op 27) false (ltb op 29)
 
 unfoldable pub fieldA : ℕ → ℕ → List ℕ
 fieldA op n = cond (onHandle op) (field (ascii "handle") n) (cond (onDomain op) (field (ascii "domain") n) (unused (ascii "unused a") n))
+
+unfoldable pub otherB : ℕ → ℕ → List ℕ
+otherB op n = cond (onThread op) (field (ascii "thread") n) (cond (onDomain op) (labelled (ascii "start") (address n)) (unused (ascii "unused b") n))
 
 unfoldable pub fieldB : ℕ → ℕ → List ℕ
 fieldB op n =
@@ -119,12 +125,10 @@ fieldB op n =
     cond (eqb op 3) (labelled (ascii "address") (address n)) (
     cond (eqb op 16) (type n) (
     cond (eqb op 18) (field (ascii "from") n) (
-    cond (eqb op 23) (field (ascii "thread") n) (
-    cond (eqb op 24) (field (ascii "thread") n) (
-    cond (eqb op 25) (field (ascii "parent") n) (
-    cond (eqb op 26) (field (ascii "thread") n) (
-    cond (eqb op 27) (labelled (ascii "start") (address n)) (
-    cond (eqb op 28) (labelled (ascii "start") (address n)) (unused (ascii "unused b") n)))))))))))
+    cond (eqb op 25) (field (ascii "parent") n) (otherB op n))))))
+
+unfoldable pub otherC : ℕ → ℕ → List ℕ
+otherC op n = cond (onDomain op) (labelled (ascii "size") (size n)) (unused (ascii "unused c") n)
 
 unfoldable pub fieldC : ℕ → ℕ → List ℕ
 fieldC op n =
@@ -132,9 +136,7 @@ fieldC op n =
     cond (eqb op 3) (labelled (ascii "length") (size n)) (
     cond (eqb op 23) (role n) (
     cond (eqb op 25) (field (ascii "child") n) (
-    cond (eqb op 26) (home n) (
-    cond (eqb op 27) (labelled (ascii "size") (size n)) (
-    cond (eqb op 28) (labelled (ascii "size") (size n)) (unused (ascii "unused c") n)))))))
+    cond (eqb op 26) (home n) (otherC op n)))))
 
 unfoldable pub fieldD : ℕ → ℕ → List ℕ
 fieldD op n = cond (eqb op 3) (access n) (cond (eqb op 27) (rights n) (unused (ascii "unused d") n))

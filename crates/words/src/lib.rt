@@ -10,7 +10,7 @@ ghost use Rattle.text.specs.Text.{ascii, decimal};
 ghost use Rattle.lines.specs.Steps.{Piece};
 ghost use Rattle.words.specs.Placed.{Placed};
 ghost use Rattle.words.specs.Row.{Begins, Follows};
-ghost use Rattle.words.specs.Words.{before, nth, unknown, rank, operation, answerName, address, size, labelled, field, unused, named, type as type·spec, role, access, rights, home, modeNumber, mode, onHandle, onDomain, fieldA, fieldB, fieldC, fieldD, fields, callWords, valueWords, answerWords, widestOperation, widestField, widestCall, widestAnswer};
+ghost use Rattle.words.specs.Words.{before, nth, unknown, rank, operation, answerName, address, size, labelled, field, unused, named, type as type·spec, role, access, rights, home, modeNumber, mode, onHandle, onThread, onDomain, fieldA, otherB, fieldB, otherC, fieldC, fieldD, fields, callWords, valueWords, answerWords, widestOperation, widestField, widestCall, widestAnswer};
 use decoding::Call;
 
 // The widest words of a field, of a call (the operation, the caller, four fields), and of an answer.
@@ -316,6 +316,18 @@ fn on_handle(op: u32) -> bool
     op < 24
 }
 
+fn on_thread(op: u32) -> bool
+    ensures { λ r. ⌜ r ≡ onThread op ⌝ }
+{
+    if op == 23 {
+        return true;
+    }
+    if op == 24 {
+        return true;
+    }
+    op == 26
+}
+
 fn on_domain(op: u32) -> bool
     ensures { λ r. ⌜ r ≡ onDomain op ⌝ }
 {
@@ -338,44 +350,43 @@ fn put_a(text: &mut [u8], at: usize, op: u32, n: u32) -> usize
     put_unused(text, at, b"unused a", n)
 }
 
-// The field b in two functions, of the operations that are open to all, and of the supervisors'.
-fn put_open_b(text: &mut [u8], at: usize, op: u32, n: u32) -> usize
-    requires { ⌜ (op < 16) × (at + widestField ≤ length (now text)) ⌝ }
-    ensures { λ r. ⌜ Piece (now (text .entry)) at widestField (fieldB op n) r (now (text .exit)) ⌝ }
-{
-    match op {
-        0 => put_type(text, at, n),
-        1 => put_field(text, at, b"to", n),
-        3 => put_place(text, at, b"address", n),
-        _ => put_unused(text, at, b"unused b", n),
-    }
-}
-
+// The fields b and c in two functions each: what operations share, by a test, and what is one operation's own.
 fn put_other_b(text: &mut [u8], at: usize, op: u32, n: u32) -> usize
-    requires { ⌜ (16 ≤ op) × (at + widestField ≤ length (now text)) ⌝ }
-    ensures { λ r. ⌜ Piece (now (text .entry)) at widestField (fieldB op n) r (now (text .exit)) ⌝ }
+    requires { ⌜ at + widestField ≤ length (now text) ⌝ }
+    ensures { λ r. ⌜ Piece (now (text .entry)) at widestField (otherB op n) r (now (text .exit)) ⌝ }
 {
-    match op {
-        16 => put_type(text, at, n),
-        18 => put_field(text, at, b"from", n),
-        23 => put_field(text, at, b"thread", n),
-        24 => put_field(text, at, b"thread", n),
-        25 => put_field(text, at, b"parent", n),
-        26 => put_field(text, at, b"thread", n),
-        27 => put_place(text, at, b"start", n),
-        28 => put_place(text, at, b"start", n),
-        _ => put_unused(text, at, b"unused b", n),
+    if on_thread(op) {
+        return put_field(text, at, b"thread", n);
     }
+    if on_domain(op) {
+        return put_place(text, at, b"start", n);
+    }
+    put_unused(text, at, b"unused b", n)
 }
 
 fn put_b(text: &mut [u8], at: usize, op: u32, n: u32) -> usize
     requires { ⌜ at + widestField ≤ length (now text) ⌝ }
     ensures { λ r. ⌜ Piece (now (text .entry)) at widestField (fieldB op n) r (now (text .exit)) ⌝ }
 {
-    if op < 16 {
-        return put_open_b(text, at, op, n);
+    match op {
+        0 => put_type(text, at, n),
+        1 => put_field(text, at, b"to", n),
+        3 => put_place(text, at, b"address", n),
+        16 => put_type(text, at, n),
+        18 => put_field(text, at, b"from", n),
+        25 => put_field(text, at, b"parent", n),
+        _ => put_other_b(text, at, op, n),
     }
-    put_other_b(text, at, op, n)
+}
+
+fn put_other_c(text: &mut [u8], at: usize, op: u32, n: u32) -> usize
+    requires { ⌜ at + widestField ≤ length (now text) ⌝ }
+    ensures { λ r. ⌜ Piece (now (text .entry)) at widestField (otherC op n) r (now (text .exit)) ⌝ }
+{
+    if on_domain(op) {
+        return put_extent(text, at, b"size", n);
+    }
+    put_unused(text, at, b"unused c", n)
 }
 
 fn put_c(text: &mut [u8], at: usize, op: u32, n: u32) -> usize
@@ -388,9 +399,7 @@ fn put_c(text: &mut [u8], at: usize, op: u32, n: u32) -> usize
         23 => put_role(text, at, n),
         25 => put_field(text, at, b"child", n),
         26 => put_home(text, at, n),
-        27 => put_extent(text, at, b"size", n),
-        28 => put_extent(text, at, b"size", n),
-        _ => put_unused(text, at, b"unused c", n),
+        _ => put_other_c(text, at, op, n),
     }
 }
 
