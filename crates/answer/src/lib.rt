@@ -1,6 +1,8 @@
 // The answers: the thirteen numbers of docs/SPEC.md, 1, under their names, and the way back to upstream's error.rs.
 // Every other crate answers with these numbers. What is promised: `number` and `code_of` are each other's inverse on
 // 0..12, and `to_errno` gives upstream's value for 0..6 and refuses every other number.
+#![tactic(auto)]
+
 ghost use Rattle.std.specs.Prelude.{◌≡◌};
 ghost use Rattle.answer.specs.Answer.{number_of, code_of, errno_of};
 
@@ -31,7 +33,7 @@ pub const ROOM: u32 = 11;
 pub const DIFFERS: u32 = 12;
 
 // The same thirteen, for a `match`.
-#[derive(Drop)]
+#[derive(Clone, Copy)]
 pub enum Code {
     Ok = 0,
     Einval = 1,
@@ -49,21 +51,21 @@ pub enum Code {
 }
 
 // What a number names: a code, or nothing.
-#[derive(Drop)]
+#[derive(Clone, Copy)]
 pub enum Named {
     Is(Code),
     Nothing,
 }
 
 // What most functions answer: a number of the table, and a value beside it.
-#[derive(Drop)]
+#[derive(Clone, Copy)]
 pub struct Answer {
     pub code: u32,
     pub value: u32,
 }
 
 // The translation's answer: upstream's values are signed.
-#[derive(Drop)]
+#[derive(Clone, Copy)]
 pub struct Errno {
     pub code: u32,
     pub value: i32,

@@ -5,7 +5,7 @@ use native.Mathlib.Nat.{mod-eq_of_lt}
 use native.Mathlib.Omega.{arith}
 use mathlib.Core.Path.{◌≡◌, refl, sym, ap, ◌∙◌, subst}
 use mathlib.Core.Logic.{◌≢◌}
-use mathlib.Core.Bool.{Bool, true, false, cond, ◌||◌, or_true, or-false}
+use mathlib.Core.Bool.{Bool, true, false, cond, ◌||◌, or-true, or-false}
 use mathlib.Core.List.{List, []}
 use lib.ListN.{length, get_or, set}
 use borrow.Author.Tests.{ne_eqb, lt-ltb}
@@ -140,7 +140,7 @@ unfolding inherited holds
 inherited_is o p c h g = rw (lt-ltb p THREADS h) (go (is_set o.word p) refl)
   where
     go : (b : Bool) → is_set o.word p ≡ b → Inherits p c o (cond b (granted o c).object o)
-    go true e = let r = granted_is o c g in record { kind = r.kind; flags = r.flags; child = r.bit ∙ sym (ap (λ x. is_set o.word c || x) e ∙ or_true (is_set o.word c)); others = r.others }
+    go true e = let r = granted_is o c g in record { kind = r.kind; flags = r.flags; child = r.bit ∙ sym (ap (λ x. is_set o.word c || x) e ∙ or-true (is_set o.word c)); others = r.others }
     go false e = record { kind = refl; flags = refl; child = sym (ap (λ x. is_set o.word c || x) e ∙ or-false (is_set o.word c)); others = λ u n. refl }
 
 set_is : (l : List MemPartition) → length l ≡ SLOTS → (j : ℕ) (p : MemPartition) → j < SLOTS → SlotIs j p l (set l j p)

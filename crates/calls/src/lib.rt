@@ -3,6 +3,7 @@
 // once the state was found to keep the rules.
 // Promised: `call` answers and leaves what judging/specs says; `run` is the fold of it, with the state judged once; a refusal changes nothing.
 // Inside, a step has the rules as what it requires and as what it ensures again, so no call of a log can meet a state that breaks one.
+#![tactic(auto)]
 ghost use Rattle.std.specs.Prelude.{◌≡◌, ◌+◌, ◌*◌, ◌<◌, ◌≤◌, ◌^◌, length};
 ghost use Rattle.tables.specs.State.{state_of};
 ghost use Rattle.rules.specs.Rules.{Sound};
@@ -22,7 +23,7 @@ mod enacting_objects;
 const CALL: usize = 16;
 
 // What a run answers: the table's number, and how many answers were written.
-#[derive(Drop)]
+#[derive(Clone, Copy)]
 pub struct Ran {
     pub code: u32,
     pub answers: usize,

@@ -3,6 +3,7 @@
 // Here bytes are only moved: an image is judged by `image::read`, calls are answered and their lines made by `replaying::feed`. Promised inside: at each turn
 // the state keeps the rules and every buffer has its room (specs/Ready.antt), so no answer of those two is VALUE or ROOM. What the system is handed, and
 // in which order, no contract can say.
+#![tactic(auto)]
 ghost use Rattle.std.specs.Prelude.{◌≡◌, cond, ◌&&◌, not, ◌+◌, ◌≤◌, ◌<◌, eqb, length, get_or};
 ghost use Rattle.io.specs.Counts.{IsPrefixLen};
 ghost use Rattle.rules.specs.Rules.{Sound};
@@ -116,7 +117,7 @@ const VERSION: u32 = 4;
 const HELP: u32 = 5;
 
 // What the words up to here ask for; whether lines are to be in words; whether an option may still come; which argument names the image.
-#[derive(Drop)]
+#[derive(Clone, Copy)]
 struct Asked {
     what: u32,
     words: bool,
@@ -237,7 +238,7 @@ fn all_asked() -> Asked
 // ---- reading
 
 // What a reading brought: how many bytes, and whether it failed.
-#[derive(Drop)]
+#[derive(Clone, Copy)]
 struct Got {
     bytes: usize,
     failed: bool,
@@ -291,7 +292,7 @@ fn fill(fd: i32, buf: &mut [u8]) -> Got
 // ---- the calls
 
 // Where the loop over the input stands: an exit status or ON, the bytes at the buffer's front, and the next call's number.
-#[derive(Drop)]
+#[derive(Clone, Copy)]
 struct Place {
     status: u32,
     have: usize,

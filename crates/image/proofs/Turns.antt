@@ -4,7 +4,7 @@ use native.Mathlib.Nat.{pow-suc, add-sub_cancel_left, le_trans, le_refl, pow-le-
 use native.Mathlib.Numerals.{add-one}
 use native.Mathlib.Omega.{arith}
 use mathlib.Core.Path.{◌≡◌, refl, ap, ◌∙◌}
-use mathlib.Core.Bool.{Bool, true, false, ◌&&◌, and_false}
+use mathlib.Core.Bool.{Bool, true, false, ◌&&◌, and-false}
 use mathlib.Core.List.{List, [], ◌∷◌, ◌++◌}
 use lib.Dec.{eqb, lit<}
 use lib.ListN.{length, take, drop, get_or, set, length-drop}
@@ -59,7 +59,7 @@ unfolding eqs
 eqs_long [] [] h = absurd (h refl)
 eqs_long [] (y ∷ b) h = refl
 eqs_long (x ∷ a) [] h = refl
-eqs_long (x ∷ a) (y ∷ b) h = rw (eqs_long a b (λ e. h (ap suc e))) (and_false (eqb x y))
+eqs_long (x ∷ a) (y ∷ b) h = rw (eqs_long a b (λ e. h (ap suc e))) (and-false (eqb x y))
 
 pub eqs_end : (a b : List ℕ) → length a ≡ length b → eqs (drop (length a) a) (drop (length a) b) ≡ true
 unfolding eqs

@@ -1,6 +1,7 @@
 // The image's reader: the bytes of docs/SPEC.md, 9, into three lent tables, and back what lies behind the image.
 // The tables are read off into scratch, judged by the rules, written once more and compared with the bytes, and only then copied: so an image is
 // accepted exactly when it is what the writer writes of a state that keeps the rules, and a refusal changes nothing.
+#![tactic(auto)]
 ghost use Rattle.std.specs.Prelude.{◌≡◌, cond, ◌+◌, ◌*◌, ◌≤◌, ◌<◌, ◌^◌, length};
 ghost use Rattle.std.proofs.lemmas.List.Edits.{sets};
 ghost use Rattle.answer.specs.Stores.{cat};

@@ -1,6 +1,7 @@
 // Answers as lines of text: what replay prints for machines.
 // Promised of `put_lines`: the decimal lines of the first n answers, and how many bytes they have; what lies behind them stays. More answers than were
 // lent are EINVAL, a buffer that might be too small is ROOM, and then nothing is written.
+#![tactic(auto)]
 ghost use Rattle.std.specs.Prelude.{◌≡◌, ◌+◌, ◌*◌, ◌<◌, ◌≤◌, length};
 ghost use Rattle.answer.specs.Stores.{cat};
 ghost use Rattle.lines.specs.Lines.{line, line_at, Lines};
@@ -10,7 +11,7 @@ ghost use Rattle.lines.specs.Steps.{Piece};
 pub const LONGEST: usize = 22;
 
 // What putting lines answers: the table's number, and how many bytes they have.
-#[derive(Drop)]
+#[derive(Clone, Copy)]
 pub struct Put {
     pub code: u32,
     pub bytes: usize,

@@ -3,7 +3,7 @@ use Prim.Native.Nat.{ℕ, ◌+◌, ◌≤◌, ◌<◌}
 use native.Mathlib.Decide.{ℕ_discrete}
 use native.Mathlib.Omega.{arith}
 use mathlib.Core.Path.{◌≡◌, refl, sym, ap, ◌∙◌}
-use mathlib.Core.Bool.{Bool, true, false, not, ◌&&◌, ◌||◌, or_true, or-false, true≢false}
+use mathlib.Core.Bool.{Bool, true, false, not, ◌&&◌, ◌||◌, or-true, or-false, true≢false}
 use mathlib.Core.List.{List}
 use mathlib.Core.Logic.{by_cases}
 use lib.Dec.{eqb}
@@ -118,7 +118,7 @@ module _ (l : List MemPartition) where
       grown : (x : Bool) → holds p a ≡ x → contains_addr (set l k p) a ≡ (contains_addr l a || holds p a)
       unfolding contains_addr
       grown true f = any_at (holds_at (set l k p) a) 16 k b (ap (λ q. is_active q && holds q a) (slot_same h) ∙ active_holds p a ∙ f)
-          ∙ sym (ap (λ x. any_to (holds_at l a) 16 || x) f ∙ or_true (any_to (holds_at l a) 16))
+          ∙ sym (ap (λ x. any_to (holds_at l a) 16 || x) f ∙ or-true (any_to (holds_at l a) 16))
       grown false f = any_same (holds_at (set l k p) a) (holds_at l a) 16 (λ j _. holds_same j f)
           ∙ sym (ap (λ x. any_to (holds_at l a) 16 || x) f ∙ or-false (any_to (holds_at l a) 16))
 

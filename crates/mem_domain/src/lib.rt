@@ -1,6 +1,7 @@
 // Memory domains: up to sixteen windows of addresses, upstream's mem_domain.rs. Every function takes any record literally,
 // refuses by the numbers of docs/SPEC.md, 1, instead of requiring anything, and is promised to equal its definition in specs/: so an
 // accepted window is stored as it was asked for, in the lowest free slot, and a refusal hands the same record back.
+#![tactic(auto)]
 ghost use Rattle.std.specs.Prelude.{◌≡◌, ◌&&◌, ◌<◌};
 ghost use Rattle.mem_partition.specs.Partition.{is_active, meets as meets·spec, holds, is_window};
 ghost use Rattle.mem_domain.specs.Domain.{slots, active_count, with_count, crossed, addable, lowest_free, has_free, lowest_window, contains_addr, no_partitions, refused, changed_at, added, removed, got_nothing, gotten};
@@ -13,14 +14,14 @@ pub const MAX_PARTITIONS: u32 = 16;
 const SLOTS: usize = MAX_PARTITIONS as usize;
 
 // By value: a function that changes a domain hands it back.
-#[derive(Drop)]
+#[derive(Clone, Copy)]
 pub struct MemDomain {
     pub partitions: [MemPartition; SLOTS],
     pub num_partitions: u32,
 }
 
 // What add and remove hand back: the answer, the slot beside it, and the domain.
-#[derive(Drop)]
+#[derive(Clone, Copy)]
 pub struct Changed {
     pub code: u32,
     pub value: u32,
@@ -28,7 +29,7 @@ pub struct Changed {
 }
 
 // What get hands back: the answer, and the slot's three fields.
-#[derive(Drop)]
+#[derive(Clone, Copy)]
 pub struct Got {
     pub code: u32,
     pub start: u32,

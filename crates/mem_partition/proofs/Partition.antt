@@ -2,7 +2,7 @@
 use Prim.Native.Nat.{ℕ, ◌≤◌, ◌<◌}
 use native.Mathlib.Omega.{arith}
 use mathlib.Core.Path.{◌≡◌, refl, ap}
-use mathlib.Core.Bool.{Bool, true, false, not, ◌&&◌, and_comm, and_false, true≢false}
+use mathlib.Core.Bool.{Bool, true, false, not, ◌&&◌, and_comm, and-false, true≢false}
 use mathlib.Core.Logic.{◌⊎◌, inl, inr}
 use lib.Dec.{ltb, leb}
 use borrow.Author.Tests.{lt-ltb, le-leb, ne_eqb, ltb-true, ltb-false, leb-true, eqb-false, not-true}
@@ -72,4 +72,4 @@ active_holds p a = go (holds p a) refl
   where
     go : (b : Bool) → holds p a ≡ b → (is_active p && holds p a) ≡ holds p a
     go true e = rw (holds_active p a e)
-    go false e = rw e (and_false (is_active p))
+    go false e = rw e (and-false (is_active p))

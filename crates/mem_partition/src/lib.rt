@@ -1,10 +1,12 @@
 // A window of addresses by value, the partition of upstream's mem_domain.rs. Every function takes any record and any numbers literally, and is
 // promised to equal its definition in specs/Partition: sums never wrap, and windows that only touch do not overlap (docs/SPEC.md, 3.1 to 3.7).
+#![tactic(auto)]
+
 ghost use Rattle.std.specs.Prelude.{◌≡◌};
 ghost use Rattle.mem_partition.specs.Partition.{window_of, end_of, is_valid, overlap_of};
 
 // A window of addresses and its rights. Size 0 marks a free slot.
-#[derive(Drop)]
+#[derive(Clone, Copy)]
 pub struct MemPartition {
     pub start: u32,
     pub size: u32,

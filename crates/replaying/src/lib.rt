@@ -3,6 +3,7 @@
 // none came, every part), the three tables are what `run` leaves, the
 // text is their lines in order, in numbers or in words, and the bytes of a call that is not yet whole stand at the buffer's front, with their number. VALUE and
 // ROOM change nothing. `put_refusal` puts the line of an image that was refused. What pieces the log comes in makes no difference (proofs/Pieces.antt).
+#![tactic(auto)]
 ghost use Rattle.std.specs.Prelude.{◌≡◌, ℕ, ◌+◌, ◌*◌, ◌<◌, ◌≤◌, min, List, [], ◌∷◌, length, take, drop, if◌then◌else◌, ◌==◌, nat_le};
 ghost use Rattle.lines.specs.Lines.{Lines};
 ghost use Rattle.calls.specs.Calls.{parts_in};
@@ -25,7 +26,7 @@ pub const REFUSAL: usize = 30;
 const NUMBERS: u64 = 4294967296;
 
 // What feeding answers: the table's number with the text's bytes, how many bytes of the log are kept, and the next call's number.
-#[derive(Drop)]
+#[derive(Clone, Copy)]
 pub struct Fed {
     pub put: Put,
     pub left: usize,

@@ -1,6 +1,7 @@
 // The rules of a state, and the one function that judges three lent tables by them: of any length, with any content.
 // Calls, image and writer answer VALUE by `keeps`. Promised: it says true exactly when the rules of docs/SPEC.md, 6, hold. One pass over each
 // table; that over the threads gathers in a mask who lives, so that the rule about the bits (SPEC 6.7) is one test for each object.
+#![tactic(auto)]
 ghost use Rattle.std.specs.Prelude.{◌≡◌, ◌||◌, ◌+◌, ◌*◌, ◌<◌, ◌≤◌, eqb, ltb, length};
 ghost use Rattle.domain_rules.specs.Scan.{all_to};
 ghost use Rattle.domain_rules.specs.Sound.{slots_sound};
@@ -19,7 +20,7 @@ const ALL_HANDLES: usize = HANDLES as usize;
 const ALL_DOMAINS: usize = DOMAINS as usize;
 
 // What the pass over the threads finds: whether each keeps its rules, and who lives, a bit for each.
-#[derive(Drop)]
+#[derive(Clone, Copy)]
 struct Judged {
     ok: bool,
     live: u64,

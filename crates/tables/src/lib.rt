@@ -2,6 +2,7 @@
 // threads, slots and domains; those of objects are the crate object_table.
 // Every accessor is total: behind a table's end a load gives the all-zero record and a store does nothing, so nobody above has to be careful.
 // What stands above speaks of records and of `State` (specs/State.antt) and never of an offset.
+#![tactic(auto)]
 ghost use Rattle.std.specs.Prelude.{◌≡◌, ◌<◌, ◌^◌, get_or, set};
 ghost use Rattle.tables.specs.Table.{sized, thread_at, put_thread, partition_at, put_partition, slot_at, put_slot, partitions_at, domain_at, put_domain};
 
@@ -27,7 +28,7 @@ pub const THREAD_NUMBERS: usize = 3 * (THREADS as usize);
 pub const SLOT_NUMBERS: usize = 3 * SLOTS * (DOMAINS as usize);
 
 // A thread's record: role 0 dead, 1 user, 2 supervisor; domain 0..7 or 255 for none; the handle of its thread object.
-#[derive(Drop)]
+#[derive(Clone, Copy)]
 pub struct Thread {
     pub role: u32,
     pub domain: u32,

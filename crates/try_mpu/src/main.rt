@@ -1,6 +1,7 @@
 // Runs cases over the checker and the planner and prints each answer. A case is 86 little-endian words: 1 to check, 2 to plan or 3 to check
 // again and again (bench/mpu), the number of words lent, the number of regions or of rounds, the record's count, its sixteen slots of start, size and attr, and 34 words of plan
 // or of what lies in the lent run before. tests/mpu/cases.py makes cases, and works out the answers by a model.
+#![tactic(auto)]
 ghost use Rattle.std.specs.Prelude.{◌<◌};
 
 use answer::Answer;

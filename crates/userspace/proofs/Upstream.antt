@@ -3,7 +3,7 @@
 use Prim.Native.Nat.{ℕ, ◌-◌, ◌*◌, ◌^◌, ◌<◌, ◌≤◌, min}
 use mathlib.Core.Path.{◌≡◌, refl, sym, ap, ◌∙◌}
 use mathlib.Core.Logic.{◌≢◌, ◌⊎◌, inl, inr}
-use mathlib.Core.Bool.{Bool, true, false, cond, ◌&&◌, ◌||◌, or_true, and_false}
+use mathlib.Core.Bool.{Bool, true, false, cond, ◌&&◌, ◌||◌, or-true, and-false}
 use lib.Dec.{ltb, eqb, lit<}
 use lib.Bits.{bit_and, bit_or}
 use native.Mathlib.Decide.{dec_lt, ℕ_discrete}
@@ -166,7 +166,7 @@ access_supervisor o t = refl
 
 pub access_public : (o : KernelObject) (t : ℕ) (s : Bool) → public o ≡ true → access o t s ≡ true
 unfolding access
-access_public o t s e = rw e (or_true s)
+access_public o t s e = rw e (or-true s)
 
 pub access_bit : (o : KernelObject) (t : ℕ) → public o ≡ false → access o t false ≡ holds o t
 unfolding access
@@ -195,7 +195,7 @@ type_mismatch e a z ne = type_differs (type_number e) (type_number a) (λ p. z (
 pub type_matches : (e a : ObjType) → (e ≡ Any) ⊎ (a ≡ e) → type_fits (type_number e) (type_number a) ≡ true
 unfolding type_fits
 type_matches e a (inl p) = rw p
-type_matches e a (inr p) = rw (eq-eqb (type_number e) (type_number a) (ap type_number (sym p))) (or_true (eqb (type_number e) 0))
+type_matches e a (inr p) = rw (eq-eqb (type_number e) (type_number a) (ap type_number (sym p))) (or-true (eqb (type_number e) 0))
 
 pub type_fits_says : (e a : ℕ) → type_fits e a ≡ true → (e ≡ 0) ⊎ (e ≡ a)
 unfolding type_fits
@@ -396,7 +396,7 @@ supervisor_always_granted = access_supervisor
 -- no bit, no flag: neither public nor initialised, and no thread has access
 pub new_no_access : (n t : ℕ) → access (new_object n) t false ≡ false
 unfolding access holds
-new_no_access n t = simp (is_zero, and_false)
+new_no_access n t = simp (is_zero, and-false)
 
 pub type_mismatch_fails : (o : KernelObject) (e a : ObjType) (t : ℕ) (s : Bool) (c : InitCheck) → o.obj_type ≡ type_number a → e ≢ Any → a ≢ e → validated o (type_number e) t s c ≡ Refused 3
 type_mismatch_fails o e a t s c is z ne = validate_ebadf o (type_number e) t s c (ap (type_fits (type_number e)) is ∙ type_mismatch e a z ne)
@@ -407,7 +407,7 @@ uninit_fails_must_be_init o t e = rw e
 
 pub grant_then_check : (o : KernelObject) (t : ℕ) (s : Bool) → t < 64 → access (granted o t).object t s ≡ true
 unfolding access holds
-grant_then_check o t s h = simp (lt-ltb t THREADS h, grant_sets o t h, or_true)
+grant_then_check o t s h = simp (lt-ltb t THREADS h, grant_sets o t h, or-true)
 
 gone : (o : KernelObject) (t : ℕ) → holds (revoked o t).object t ≡ false
 unfolding holds

@@ -2,6 +2,7 @@
 // Upstream's userspace.rs with a word for its table of 64 booleans. What is promised: each function is the
 // definition of specs/Userspace for every record taken literally and every number; a thread from 64 on is
 // refused with EINVAL and the record comes back unchanged; the word acts as upstream's table (proofs/Table).
+#![tactic(auto)]
 ghost use Rattle.std.specs.Prelude.{◌≡◌};
 ghost use Rattle.userspace.specs.Userspace.{bit_at, with_bit, without_bit, with_word, with_flags, public, initialised, allocated, driver, changed_at, new_object, granted, revoked, cleared_all, access, type_fits, validated, initiated, uninitiated, recycled, published, bit_answer};
 
@@ -13,7 +14,7 @@ use userspace_names::InitCheck;
 pub const MAX_THREADS: u32 = 64;
 
 // A record as it is stored: type and flags are compared and never judged.
-#[derive(Drop)]
+#[derive(Clone, Copy)]
 pub struct KernelObject {
     pub obj_type: u8,
     pub flags: u8,
@@ -21,7 +22,7 @@ pub struct KernelObject {
 }
 
 // What grant, revoke, per-thread clear and recycle answer: the table's number, a value, and the record.
-#[derive(Drop)]
+#[derive(Clone, Copy)]
 pub struct Changed {
     pub code: u32,
     pub value: u32,

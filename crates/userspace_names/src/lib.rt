@@ -1,10 +1,12 @@
 // The permission leaf's types and modes: names for the numbers, numbers for the names. Upstream's ObjType and InitCheck.
 // What is promised: each function is the definition of specs/Names for every number; a number that names nothing is told apart.
+#![tactic(auto)]
+
 ghost use Rattle.std.specs.Prelude.{◌≡◌};
 ghost use Rattle.userspace_names.specs.Names.{type_number, type_named, check_number, check_named};
 
 // What a kernel object is. A record holds the number, which may be none of these.
-#[derive(Drop)]
+#[derive(Clone, Copy)]
 pub enum ObjType {
     Any = 0,
     Thread = 1,
@@ -25,14 +27,14 @@ pub enum ObjType {
 }
 
 // What a number names: a type, or nothing.
-#[derive(Drop)]
+#[derive(Clone, Copy)]
 pub enum NamedType {
     Is(ObjType),
     Nothing,
 }
 
 // What a validation asks of the initialised flag.
-#[derive(Drop)]
+#[derive(Clone, Copy)]
 pub enum InitCheck {
     MustBeInit = 0,
     MustNotBeInit = -1,
@@ -40,7 +42,7 @@ pub enum InitCheck {
 }
 
 // What a number names: a mode, or nothing.
-#[derive(Drop)]
+#[derive(Clone, Copy)]
 pub enum NamedCheck {
     Is(InitCheck),
     Nothing,

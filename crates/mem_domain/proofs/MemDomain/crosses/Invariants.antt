@@ -1,0 +1,13 @@
+use Prim.Native.Nat.{◌-◌, ◌≤◌}
+use native.Mathlib.Omega.{arith}
+use mathlib.Core.Path.{◌≡◌, refl, sym, ◌∙◌}
+use Rattle.mem_domain.specs.Domain.{crossed_at, crossed}
+use Rattle.mem_domain.specs.Scan.{first_from, lowest}
+use Rattle.mem_domain.proofs.Scan.{any_at, turn_miss, turn_none}
+use Rattle.mem_domain.proofs.MemDomain.crosses.Given as goal
+
+abbrev pub invariant-loop-k : goal.invariant-loop-k
+invariant-loop-k l = (l.k ≤ 16) × (lowest (crossed_at l.self.partitions l.start l.end) 16 ≡ first_from (crossed_at l.self.partitions l.start l.end) l.k (16 - l.k))
+
+abbrev pub decreases-loop-k : goal.decreases-loop-k
+decreases-loop-k l = 16 - l.k
