@@ -1,0 +1,9 @@
+use Rattle.calls.proofs.Laws.{told_at}
+use borrow.Author.Rules.{rules}
+use Rattle.calls.proofs.put_answer.Reads as put-answer-reads
+use Rattle.calls.proofs.step.Reads as step-reads
+use Rattle.decoding.proofs.decode.Reads as decode-reads
+use Rattle.calls.proofs.turn.Goals as goal
+
+pub returns : goal.returns
+returns c = told_at _ _ (c.args.k) c.requires.1.0 c.decode-c.ensures c.step-a.ensures c.put_answer.ensures

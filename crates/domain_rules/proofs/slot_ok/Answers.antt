@@ -1,0 +1,24 @@
+use Rattle.answer.specs.Tests.{tests, via}
+use borrow.Author.Tests.{lt-ltb, le-ltb, le-leb, lt-leb, eq-eqb, ne_eqb}
+use Rattle.domain_rules.specs.Sound.{attr_ok, slot_ok, apart_of}
+use Rattle.mem_partition.specs.Partition.{holds}
+use borrow.Author.Rules.{rules}
+use Rattle.mem_partition.proofs.MemPartition.is_valid.Reads as is-valid-reads
+use Rattle.domain_rules.proofs.attr_ok.Reads as attr-ok-reads
+use Rattle.domain_rules.proofs.slot_ok.Goals as goal
+
+pub returns-then-p-eq0-2 : goal.returns-then-p-eq0-2
+unfolding slot_ok
+returns-then-p-eq0-2 c = search tests
+
+pub returns-then-p-eq0 : goal.returns-then-p-eq0
+unfolding slot_ok
+returns-then-p-eq0 c = search tests
+
+pub returns-then-is_valid : goal.returns-then-is_valid
+unfolding slot_ok
+returns-then-is_valid c = simp (ne_eqb _ _ c.if-p-eq0.false, via c.is_valid.ensures c.if-is_valid.true) c.attr_ok.ensures
+
+pub returns : goal.returns
+unfolding slot_ok
+returns c = simp (ne_eqb _ _ c.if-p-eq0.false, via c.is_valid.ensures c.if-is_valid.false)

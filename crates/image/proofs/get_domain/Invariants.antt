@@ -1,0 +1,19 @@
+use Rattle.image_write.proofs.Bytes.{cat_length}
+use Rattle.image.proofs.Turns.{cat_turn_1}
+use Rattle.image_write.proofs.Bytes.{sets_all}
+use Rattle.image.specs.Read.{domain_of}
+use Rattle.answer.specs.Stores.{cat}
+use Rattle.image_write.specs.Bytes.{le}
+use mathlib.Core.Path.{◌≡◌, refl, sym, ap, ◌∙◌}
+use mathlib.Core.List.{List, [], ◌∷◌}
+use Prim.Native.Nat.{ℕ, ◌*◌, ◌-◌, ◌≤◌}
+use native.Mathlib.Omega.{arith}
+use lib.ListN.{length, set, length-set}
+use lib.Seq.{sets}
+use Rattle.image.proofs.get_domain.Given as goal
+
+abbrev pub invariant-loop-k : goal.invariant-loop-k
+invariant-loop-k l = (l.k ≤ 48) × ((length l.initial.k ≡ 48) × (l.initial.k ≡ sets l.initial.slots 0 (cat (λ (j : ℕ). le 4 l.rec (4 * j) ∷ []) l.k)))
+
+abbrev pub decreases-loop-k : goal.decreases-loop-k
+decreases-loop-k l = 48 - l.k

@@ -1,0 +1,15 @@
+use Rattle.image.proofs.Turns.{object_turn}
+use Rattle.image.specs.Read.{object_in}
+use Rattle.answer.specs.Stores.{cat}
+use mathlib.Core.Path.{◌≡◌, refl}
+use Prim.Native.Nat.{◌-◌, ◌≤◌}
+use native.Mathlib.Omega.{arith}
+use lib.ListN.{length, length-set}
+use lib.Seq.{sets}
+use Rattle.image.proofs.get_objects.Given as goal
+
+abbrev pub invariant-loop-h : goal.invariant-loop-h
+invariant-loop-h l = (l.h ≤ l.objects) × ((length l.initial.h ≡ 512) × (l.initial.h ≡ sets l.initial.objects 0 (cat (object_in l.image) l.h)))
+
+abbrev pub decreases-loop-h : goal.decreases-loop-h
+decreases-loop-h l = l.objects - l.h

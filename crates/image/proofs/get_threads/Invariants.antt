@@ -1,0 +1,13 @@
+use Rattle.image.proofs.Turns.{enter_turn}
+use Rattle.image.specs.Read.{enter, entered}
+use mathlib.Core.Path.{◌≡◌, refl, sym, ap, ◌∙◌}
+use Prim.Native.Nat.{◌+◌, ◌*◌, ◌-◌, ◌≤◌}
+use native.Mathlib.Omega.{arith}
+use lib.ListN.{length}
+use Rattle.image.proofs.get_threads.Given as goal
+
+abbrev pub invariant-loop-i : goal.invariant-loop-i
+invariant-loop-i l = (l.i ≤ l.threads) × ((length l.initial.i ≡ 192) × (l.initial.i ≡ entered l.image l.at l.initial.threads l.i))
+
+abbrev pub decreases-loop-i : goal.decreases-loop-i
+decreases-loop-i l = l.threads - l.i

@@ -1,0 +1,13 @@
+use Rattle.image_write.proofs.Bytes.{copy_turn}
+use mathlib.Core.Path.{◌≡◌, refl, sym, ◌∙◌}
+use Prim.Native.Nat.{◌-◌, ◌≤◌}
+use native.Mathlib.Omega.{arith}
+use lib.ListN.{length, drop, length-set}
+use lib.Seq.{drop-length, sets}
+use Rattle.image_write.proofs.put_all.Given as goal
+
+abbrev pub invariant-loop-i : goal.invariant-loop-i
+invariant-loop-i l = (l.i ≤ length l.out) × ((length l.initial.i ≡ length l.initial.out) × (sets l.initial.i l.i (drop l.i l.out) ≡ sets l.initial.out 0 l.out))
+
+abbrev pub decreases-loop-i : goal.decreases-loop-i
+decreases-loop-i l = length l.out - l.i

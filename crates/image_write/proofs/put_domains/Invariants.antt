@@ -1,0 +1,16 @@
+use Rattle.image_write.proofs.Bytes.{part_length}
+use Rattle.image_write.proofs.Turns.{domains_put}
+use Rattle.image_write.specs.Encode.{domains_bytes, domain_part}
+use Rattle.answer.specs.Stores.{cat}
+use mathlib.Core.Path.{◌≡◌, refl, ap, ◌∙◌}
+use Prim.Native.Nat.{◌+◌, ◌*◌, ◌-◌, ◌≤◌}
+use native.Mathlib.Omega.{arith}
+use lib.ListN.{length}
+use lib.Seq.{sets, length-sets}
+use Rattle.image_write.proofs.put_domains.Given as goal
+
+abbrev pub invariant-loop-d : goal.invariant-loop-d
+invariant-loop-d l = (l.d ≤ 8) × ((length l.initial.d ≡ length l.initial.out) × (l.initial.d ≡ sets l.initial.out l.out (cat (domain_part l.at) l.d)))
+
+abbrev pub decreases-loop-d : goal.decreases-loop-d
+decreases-loop-d l = 8 - l.d

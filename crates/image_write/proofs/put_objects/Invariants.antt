@@ -1,0 +1,15 @@
+use Rattle.image_write.proofs.Turns.{object_put}
+use Rattle.image_write.specs.Encode.{object_bytes}
+use Rattle.answer.specs.Stores.{cat}
+use mathlib.Core.Path.{◌≡◌, refl, ◌∙◌}
+use Prim.Native.Nat.{◌-◌, ◌≤◌}
+use native.Mathlib.Omega.{arith}
+use lib.ListN.{length}
+use lib.Seq.{sets}
+use Rattle.image_write.proofs.put_objects.Given as goal
+
+abbrev pub invariant-loop-h : goal.invariant-loop-h
+invariant-loop-h l = (l.h ≤ l.objects) × ((length l.initial.h ≡ length l.initial.out) × (l.initial.h ≡ sets l.initial.out l.out (cat (object_bytes l.at) l.h)))
+
+abbrev pub decreases-loop-h : goal.decreases-loop-h
+decreases-loop-h l = l.objects - l.h

@@ -1,0 +1,26 @@
+use Rattle.answer.specs.Tests.{via}
+use borrow.Author.Tests.{not-true, not-false}
+use Rattle.mpu.proofs.Plan.{edges_same}
+use Rattle.mpu.specs.Mpu.{checked}
+use borrow.Author.Rules.{rules}
+use Rattle.mpu.proofs.edges_agree.Reads as edges-agree-reads
+use Rattle.domain_rules.proofs.is_sound.Reads as is-sound-reads
+use Rattle.mpu.proofs.plain.Reads as plain-reads
+use Rattle.mpu.proofs.plan_ok.Reads as plan-ok-reads
+use Rattle.mpu.proofs.check.Goals as goal
+
+pub returns-then-not-is_sound : goal.returns-then-not-is_sound
+unfolding checked
+returns-then-not-is_sound c = rw (via c.is_sound.ensures (not-true _ c.if-not-is_sound.true)) c.plain.ensures
+
+pub returns-then-not-plan_ok : goal.returns-then-not-plan_ok
+unfolding checked
+returns-then-not-plan_ok c = rw (via c.is_sound.ensures (not-false _ c.if-not-is_sound.false), via c.plan_ok.ensures (not-true _ c.if-not-plan_ok.true)) c.plain-then-not-plan_ok.ensures
+
+pub returns-then-edges_agree : goal.returns-then-edges_agree
+unfolding checked
+returns-then-edges_agree c = rw (via c.is_sound.ensures (not-false _ c.if-not-is_sound.false), via c.plan_ok.ensures (not-false _ c.if-not-plan_ok.false), ← (edges_same _ _), via c.edges_agree.ensures c.if-edges_agree.true) c.plain-then-edges_agree.ensures
+
+pub returns : goal.returns
+unfolding checked
+returns c = rw (via c.is_sound.ensures (not-false _ c.if-not-is_sound.false), via c.plan_ok.ensures (not-false _ c.if-not-plan_ok.false), ← (edges_same _ _), via c.edges_agree.ensures c.if-edges_agree.false) c.plain-2.ensures

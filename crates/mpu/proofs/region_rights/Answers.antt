@@ -1,0 +1,9 @@
+use Rattle.mpu.specs.Mpu.{region_rights}
+use borrow.Author.Rules.{rules}
+use Rattle.mpu.proofs.ap_rights.Reads as ap-rights-reads
+use Rattle.mpu.proofs.with_execute.Reads as with-execute-reads
+use Rattle.mpu.proofs.region_rights.Goals as goal
+
+pub returns : goal.returns
+unfolding region_rights
+returns c = rw c.ap_rights.ensures.0 at c.with_execute.ensures

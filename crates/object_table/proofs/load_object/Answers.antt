@@ -1,0 +1,8 @@
+use Rattle.tables.specs.Table.{object_at}
+use borrow.Author.Rules.{rules}
+use Rattle.object_table.proofs.at64.Reads as at64-reads
+use Rattle.object_table.proofs.load_object.Goals as goal
+
+pub returns : goal.returns
+unfolding object_at
+returns c = simp (c.at64-word.ensures, c.at64-head.ensures)

@@ -1,0 +1,14 @@
+use mathlib.Core.Path.{◌≡◌, refl, sym, ◌∙◌}
+use Prim.Native.Nat.{◌+◌, ◌-◌, ◌≤◌}
+use native.Mathlib.Omega.{arith}
+use native.Mathlib.Nat.{add-zero}
+use lib.ListN.{length, drop, length-set}
+use lib.Seq.{sets, drop-length}
+use Rattle.text.proofs.Laws.{copy_turn}
+use Rattle.text.proofs.copy.Given as goal
+
+abbrev pub invariant-loop-i : goal.invariant-loop-i
+invariant-loop-i l = (l.i ≤ length l.at) × ((length l.initial.i ≡ length l.initial.text) × (sets l.initial.i (l.text + l.i) (drop l.i l.at) ≡ sets l.initial.text l.text l.at))
+
+abbrev pub decreases-loop-i : goal.decreases-loop-i
+decreases-loop-i l = length l.at - l.i

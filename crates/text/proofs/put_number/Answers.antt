@@ -1,0 +1,20 @@
+use mathlib.Core.Path.{sym, ◌∙◌}
+use borrow.Author.Tests.{not-true, not-false, leb-true}
+use Rattle.text.specs.Laws.{decimal_length}
+use Rattle.text.proofs.Laws.{no_room, number_put}
+use borrow.Author.Rules.{rules}
+use Rattle.text.proofs.has_room.Reads as has-room-reads
+use Rattle.text.proofs.places.Reads as places-reads
+use Rattle.text.proofs.spell.Reads as spell-reads
+use Rattle.text.proofs.put_number.Goals as goal
+
+pub returns-then-not-has_room : goal.returns-then-not-has_room
+returns-then-not-has_room c = no_room _ _ _ _ (decimal_length _ ∙ sym (c.places-k.ensures)) (sym (c.has_room.ensures) ∙ not-true (c.has_room.result) (c.if-not-has_room.true))
+
+pub spell-requires : goal.spell-requires
+spell-requires c = leb-true _ _ (sym (c.has_room.ensures) ∙ not-false (c.has_room.result) (c.if-not-has_room.false))
+
+pub returns : goal.returns
+returns c = number_put _ _ _ _ _ c.places-k.ensures
+    (sym c.has_room.ensures ∙ not-false c.has_room.result c.if-not-has_room.false)
+    c.spell.ensures

@@ -1,0 +1,14 @@
+use mathlib.Core.Path.{◌≡◌, refl, sym, ◌∙◌}
+use Prim.Native.Nat.{◌+◌, ◌-◌, ◌≤◌}
+use native.Mathlib.Omega.{arith}
+use lib.ListN.{length, length-set}
+use lib.Seq.{sets}
+use Rattle.text.specs.Text.{digits}
+use Rattle.text.proofs.Laws.{spell_turn}
+use Rattle.text.proofs.spell.Given as goal
+
+abbrev pub invariant-loop-i : goal.invariant-loop-i
+invariant-loop-i l = (l.initial.rest ≤ l.at) × ((length l.i ≡ length l.initial.text) × (sets l.i l.text (digits l.initial.rest l.rest) ≡ sets l.initial.text l.text (digits l.at l.k)))
+
+abbrev pub decreases-loop-i : goal.decreases-loop-i
+decreases-loop-i l = l.initial.rest

@@ -1,0 +1,37 @@
+use mathlib.Core.Path.{◌≡◌, refl, sym, ◌∙◌}
+use Prim.Native.Nat.{◌+◌, ◌-◌, ◌≤◌}
+use native.Mathlib.Omega.{arith}
+use lib.ListN.{length, length-set}
+use lib.Seq.{sets}
+use Rattle.text.specs.Text.{hex_digits}
+use Rattle.text.proofs.Laws.{spell_hex_turn}
+use Rattle.text.proofs.hex_digit.Reads as hex-digit-reads
+use Rattle.text.proofs.spell_hex.Goals as goal
+
+pub loop-i-init : goal.loop-i-init
+loop-i-init c = (omega arith, (refl, refl))
+
+pub overflow_sub-i : goal.overflow_sub-i
+overflow_sub-i c = omega arith
+
+pub hex_digit-requires : goal.hex_digit-requires
+hex_digit-requires c = omega arith
+
+pub overflow_add-text : goal.overflow_add-text
+overflow_add-text c = omega arith
+
+pub bounds-text-at : goal.bounds-text-at
+bounds-text-at c = omega arith
+
+pub loop-i-smaller : goal.loop-i-smaller
+loop-i-smaller c = omega arith
+
+pub loop-i-preserved : goal.loop-i-preserved
+loop-i-preserved c = (omega arith, (simp length-set c.loop-i.invariant.1.0, sym (spell_hex_turn c.loop-i.text c.args.at c.loop-i.i c.loop-i.rest (omega arith) c.hex_digit.ensures) ∙ c.loop-i.invariant.1.1))
+
+pub shape_of-text : goal.shape_of-text
+shape_of-text c = omega arith
+
+pub returns : goal.returns
+unfolding hex_digits
+returns c = let z : c.loop-i.i ≡ 0 = omega arith in rw z at c.loop-i.invariant.1.1

@@ -1,0 +1,10 @@
+use Prim.Native.Nat.{◌≤◌, ◌-◌}
+use borrow.Author.Rules.{rules}
+use Rattle.try_answer.proofs.line.Reads as line_reads_lem
+use Rattle.try_answer.proofs.main.Given as goal
+
+abbrev pub invariant-loop-n : goal.invariant-loop-n
+invariant-loop-n l = l.n ≤ 15
+
+abbrev pub decreases-loop-n : goal.decreases-loop-n
+decreases-loop-n l = 15 - l.n

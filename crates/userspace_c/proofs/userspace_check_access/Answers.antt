@@ -1,0 +1,6 @@
+use mathlib.Core.Path.{◌∙◌}
+use borrow.Author.Rules.{rules}
+use Rattle.userspace_c.proofs.userspace_check_access.Goals as goal
+
+pub returns : goal.returns
+returns c = c.check_access.ensures ∙ rw c.object.ensures
