@@ -4,6 +4,7 @@
 // Promised: `call` answers and leaves what judging/specs says; `run` is the fold of it, with the state judged once; a refusal changes nothing.
 // Inside, a step has the rules as what it requires and as what it ensures again, so no call of a log can meet a state that breaks one.
 #![tactic(auto)]
+
 ghost use Rattle.std.specs.Prelude.{◌≡◌, ◌+◌, ◌*◌, ◌<◌, ◌≤◌, ◌^◌, length};
 ghost use Rattle.tables.specs.State.{state_of};
 ghost use Rattle.rules.specs.Rules.{Sound};

@@ -4,6 +4,7 @@
 // the state keeps the rules and every buffer has its room (specs/Ready.antt), so no answer of those two is VALUE or ROOM. What the system is handed, and
 // in which order, no contract can say.
 #![tactic(auto)]
+
 ghost use Rattle.std.specs.Prelude.{◌≡◌, cond, ◌&&◌, not, ◌+◌, ◌≤◌, ◌<◌, eqb, length, get_or};
 ghost use Rattle.io.specs.Counts.{IsPrefixLen};
 ghost use Rattle.rules.specs.Rules.{Sound};

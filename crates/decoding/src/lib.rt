@@ -1,6 +1,7 @@
 // Reading a call: its sixteen bytes, little-endian. Promised, for any bytes: the call is the definition `call_of` of specs/Calls.antt, where bytes that are
 // not there read as 0. Which operation a number names is said there too, for the crates above.
 #![tactic(auto)]
+
 ghost use Rattle.std.specs.Prelude.{◌≡◌, ◌+◌, ◌<◌, ◌≤◌, get_or, length};
 ghost use Rattle.decoding.specs.Calls.{word_at, call_of};
 

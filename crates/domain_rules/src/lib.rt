@@ -2,6 +2,7 @@
 // stores domains answers VALUE by this. Promised: `is_sound` says true exactly when the rules hold (docs/SPEC.md, 3.33). The tests of one slot
 // and of two are public too, for the pass over a whole table of domains, which copies no domain.
 #![tactic(auto)]
+
 ghost use Rattle.std.specs.Prelude.{◌≡◌, ◌<◌};
 ghost use Rattle.domain_rules.specs.Sound.{attr_ok, slot_ok, apart_of, apart_to, slot_sound, slots_sound, domain_sound};
 

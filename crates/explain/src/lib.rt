@@ -2,6 +2,7 @@
 // Promised of `put_explained`: for each of the first n parts of a log one line, its number, the call and its answer in the words of `words`,
 // as specs/Words.antt has them; how many bytes they have; what lies behind them stays. The refusals are those of `lines`.
 #![tactic(auto)]
+
 ghost use Rattle.std.specs.Prelude.{◌≡◌, ◌+◌, ◌*◌, ◌≤◌, length};
 ghost use Rattle.answer.specs.Stores.{cat};
 ghost use Rattle.lines.specs.Lines.{Lines};

@@ -2,6 +2,7 @@
 // A slice is a pointer and a number of elements behind it. Promised: what the function below promises; a value comes back in a lent number.
 // A domain is lent as 48 words, sixteen slots of start, size, attr; another number of words is VALUE before all else. include/wardlatch.h declares all.
 #![tactic(auto)]
+
 ghost use Rattle.std.specs.Prelude.{◌≡◌};
 ghost use Rattle.answer.specs.Answer.{errno_of};
 ghost use Rattle.answer.specs.declared.Answer.{Answer};

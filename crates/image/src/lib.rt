@@ -2,6 +2,7 @@
 // The tables are read off into scratch, judged by the rules, written once more and compared with the bytes, and only then copied: so an image is
 // accepted exactly when it is what the writer writes of a state that keeps the rules, and a refusal changes nothing.
 #![tactic(auto)]
+
 ghost use Rattle.std.specs.Prelude.{◌≡◌, cond, ◌+◌, ◌*◌, ◌≤◌, ◌<◌, ◌^◌, length};
 ghost use Rattle.std.proofs.lemmas.List.Edits.{sets};
 ghost use Rattle.answer.specs.Stores.{cat};

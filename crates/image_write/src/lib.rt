@@ -2,6 +2,7 @@
 // `encode` (specs/Encode.antt) is the layout; the reader (crate `image`) holds itself to it by writing what it read once more.
 // Promised of `write`: VALUE for tables that break a rule, then ROOM, else the image and its length; what lies behind it stays.
 #![tactic(auto)]
+
 ghost use Rattle.std.specs.Prelude.{◌≡◌, ◌++◌, ◌+◌, ◌*◌, ◌<◌, ◌≤◌, length};
 ghost use Rattle.std.proofs.lemmas.List.Edits.{sets};
 ghost use Rattle.answer.specs.Stores.{cat};

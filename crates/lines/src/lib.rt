@@ -2,6 +2,7 @@
 // Promised of `put_lines`: the decimal lines of the first n answers, and how many bytes they have; what lies behind them stays. More answers than were
 // lent are EINVAL, a buffer that might be too small is ROOM, and then nothing is written.
 #![tactic(auto)]
+
 ghost use Rattle.std.specs.Prelude.{◌≡◌, ◌+◌, ◌*◌, ◌<◌, ◌≤◌, length};
 ghost use Rattle.answer.specs.Stores.{cat};
 ghost use Rattle.lines.specs.Lines.{line, line_at, Lines};

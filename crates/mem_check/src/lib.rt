@@ -2,6 +2,7 @@
 // of the sixteen slots jumps to the end of one window, and no window is jumped twice, so 17 scans are the most.
 // Promised, for any table: the answer of the byte-by-byte definition (specs/Memory.antt), the first address that is not covered included.
 #![tactic(auto)]
+
 ghost use Rattle.std.specs.Prelude.{◌≡◌, ◌+◌, ◌*◌, ◌^◌, ◌<◌, ◌≤◌, length};
 ghost use Rattle.bits.specs.Bit.{is_set};
 ghost use Rattle.tables.specs.Table.{partition_at, partitions_at};

@@ -2,6 +2,7 @@
 // refuses by the numbers of docs/SPEC.md, 1, instead of requiring anything, and is promised to equal its definition in specs/: so an
 // accepted window is stored as it was asked for, in the lowest free slot, and a refusal hands the same record back.
 #![tactic(auto)]
+
 ghost use Rattle.std.specs.Prelude.{◌≡◌, ◌&&◌, ◌<◌};
 ghost use Rattle.mem_partition.specs.Partition.{is_active, meets as meets·spec, holds, is_window};
 ghost use Rattle.mem_domain.specs.Domain.{slots, active_count, with_count, crossed, addable, lowest_free, has_free, lowest_window, contains_addr, no_partitions, refused, changed_at, added, removed, got_nothing, gotten};

@@ -2,6 +2,7 @@
 // whoever made the plan, and knows no planner. What is promised: `check` answers for every address below 2^32, though it looks only at
 // the edges of slots and regions (proofs/Cover.antt); a record that is not sound (docs/SPEC.md, 3.33) is VALUE before all else.
 #![tactic(auto)]
+
 ghost use Rattle.std.specs.Prelude.{◌≡◌, not, ◌&&◌, ◌+◌, ◌/◌, ◌^◌, ◌<◌, ◌≤◌, eqb, length};
 ghost use Rattle.mem_partition.specs.Partition.{is_active, holds};
 ghost use Rattle.mem_domain.specs.Domain.{active_count};

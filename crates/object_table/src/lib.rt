@@ -1,6 +1,7 @@
 // The records of the object table, loaded and stored: at 2h an object's head, type + 256 * flags, at 2h + 1 its word (tables/specs/Table.antt).
 // Both are total, as the accessors of `tables` are: behind the table's end a load gives the all-zero record and a store does nothing.
 #![tactic(auto)]
+
 ghost use Rattle.std.specs.Prelude.{◌≡◌, get_or, set};
 ghost use Rattle.tables.specs.Table.{object_at, put_object};
 

@@ -2,6 +2,7 @@
 // and stands below it only so that proofs/Right.antt can say that every plan made here is accepted. What is promised: the answer,
 // the value and the lent words equal their definitions in specs/, for any record, any number of regions and any run of words.
 #![tactic(auto)]
+
 ghost use Rattle.std.specs.Prelude.{◌≡◌, true, ◌++◌, ◌+◌, ◌*◌, ◌%◌, ◌^◌, ◌<◌, ◌≤◌, length, set, drop};
 ghost use Rattle.mem_partition.specs.Partition.{is_active};
 ghost use Rattle.answer.specs.Answer.{plain};

@@ -4,6 +4,7 @@
 // text is their lines in order, in numbers or in words, and the bytes of a call that is not yet whole stand at the buffer's front, with their number. VALUE and
 // ROOM change nothing. `put_refusal` puts the line of an image that was refused. What pieces the log comes in makes no difference (proofs/Pieces.antt).
 #![tactic(auto)]
+
 ghost use Rattle.std.specs.Prelude.{◌≡◌, ℕ, ◌+◌, ◌*◌, ◌<◌, ◌≤◌, min, List, [], ◌∷◌, length, take, drop, if◌then◌else◌, ◌==◌, nat_le};
 ghost use Rattle.lines.specs.Lines.{Lines};
 ghost use Rattle.calls.specs.Calls.{parts_in};

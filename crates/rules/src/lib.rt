@@ -2,6 +2,7 @@
 // Calls, image and writer answer VALUE by `keeps`. Promised: it says true exactly when the rules of docs/SPEC.md, 6, hold. One pass over each
 // table; that over the threads gathers in a mask who lives, so that the rule about the bits (SPEC 6.7) is one test for each object.
 #![tactic(auto)]
+
 ghost use Rattle.std.specs.Prelude.{◌≡◌, ◌||◌, ◌+◌, ◌*◌, ◌<◌, ◌≤◌, eqb, ltb, length};
 ghost use Rattle.domain_rules.specs.Scan.{all_to};
 ghost use Rattle.domain_rules.specs.Sound.{slots_sound};

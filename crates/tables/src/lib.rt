@@ -3,6 +3,7 @@
 // Every accessor is total: behind a table's end a load gives the all-zero record and a store does nothing, so nobody above has to be careful.
 // What stands above speaks of records and of `State` (specs/State.antt) and never of an offset.
 #![tactic(auto)]
+
 ghost use Rattle.std.specs.Prelude.{◌≡◌, ◌<◌, ◌^◌, get_or, set};
 ghost use Rattle.tables.specs.Table.{sized, thread_at, put_thread, partition_at, put_partition, slot_at, put_slot, partitions_at, domain_at, put_domain};
 

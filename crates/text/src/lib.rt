@@ -2,6 +2,7 @@
 // Promised: `put_number` puts the decimal digits, `put_hex` those in base 16 and `put_word` the bytes, at the place that was asked for, and says how many
 // they are; where they have no room nothing is written, and the count is 0. What lies around them stays.
 #![tactic(auto)]
+
 ghost use Rattle.std.specs.Prelude.{◌≡◌, ◌+◌, ◌<◌, ◌≤◌, max, leb, length};
 ghost use Rattle.std.proofs.lemmas.List.Edits.{sets};
 ghost use Rattle.text.specs.Text.{places as places·spec, digits, decimal, hex_digit, hex_places, hex_digits, hex, Put};

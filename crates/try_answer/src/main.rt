@@ -1,6 +1,7 @@
 // Prints the table of answers (docs/SPEC.md, 1) as the crate `answer` has it: each number, the number of its name (or -), and what the
 // translation answers: code and upstream's value. The stored output is that table written by hand, with error.rs beside it.
 #![tactic(auto)]
+
 use answer::Named;
 use libc::STDOUT_FILENO;
 

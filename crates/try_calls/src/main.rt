@@ -3,6 +3,7 @@
 // Steps 0 to 3 write one number of objects, threads, slots or `out`, so that any state can be made, unsound ones too. Steps 4 and 5 are a call and
 // a log: x has how many bytes and how many numbers of `out`, y and z have how much of each table is lent. tests/calls/cases.py makes the list.
 #![tactic(auto)]
+
 ghost use Rattle.std.specs.Prelude.{◌<◌, ◌≤◌, length};
 
 use libc::STDOUT_FILENO;

@@ -2,6 +2,7 @@
 // read back. Prints each answer, the length and the first byte of the rest, and digests of the tables and of the bytes. The list stands in `stdin`,
 // four little-endian words to a step, its number first; tests/image/cases.py makes it, and works out `stdout` by a model.
 #![tactic(auto)]
+
 ghost use Rattle.std.specs.Prelude.{◌<◌, ◌≤◌};
 
 use libc::STDOUT_FILENO;

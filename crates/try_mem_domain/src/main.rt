@@ -1,6 +1,7 @@
 // Runs a stored list of cases over the memory domain and prints each answer. The list stands in `stdin`, five little-endian
 // words to a case: a number of `step`, then its four arguments. tests/mem_domain/cases.py makes it, and works out `stdout` by a model.
 #![tactic(auto)]
+
 ghost use Rattle.std.specs.Prelude.{◌<◌};
 
 use libc::STDOUT_FILENO;

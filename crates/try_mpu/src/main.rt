@@ -2,6 +2,7 @@
 // again and again (bench/mpu), the number of words lent, the number of regions or of rounds, the record's count, its sixteen slots of start, size and attr, and 34 words of plan
 // or of what lies in the lent run before. tests/mpu/cases.py makes cases, and works out the answers by a model.
 #![tactic(auto)]
+
 ghost use Rattle.std.specs.Prelude.{◌<◌};
 
 use answer::Answer;

@@ -1,6 +1,7 @@
 // Runs a stored list of steps over three tables and prints what is loaded and how the state is judged. The list stands in `stdin`, four
 // little-endian words to a step: its number, a place, and two words of a value. tests/tables/cases.py makes it, and works out `stdout` by a model.
 #![tactic(auto)]
+
 ghost use Rattle.std.specs.Prelude.{◌+◌, ◌<◌, ◌≤◌};
 
 use libc::STDOUT_FILENO;

@@ -2,6 +2,7 @@
 // a number of `step`, three bytes a, b, c, a thread or number n, and a word w, little-endian. tests/userspace/cases.py makes it, and works
 // out `stdout` by a model that keeps a list of 64 yes or no, as upstream does.
 #![tactic(auto)]
+
 use libc::STDOUT_FILENO;
 use userspace::{Changed, KernelObject};
 use userspace_decide::Validated;

@@ -3,6 +3,7 @@
 // definition of specs/Userspace for every record taken literally and every number; a thread from 64 on is
 // refused with EINVAL and the record comes back unchanged; the word acts as upstream's table (proofs/Table).
 #![tactic(auto)]
+
 ghost use Rattle.std.specs.Prelude.{◌≡◌};
 ghost use Rattle.userspace.specs.Userspace.{bit_at, with_bit, without_bit, with_word, with_flags, public, initialised, allocated, driver, changed_at, new_object, granted, revoked, cleared_all, access, type_fits, validated, initiated, uninitiated, recycled, published, bit_answer};
 

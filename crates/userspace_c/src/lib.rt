@@ -1,6 +1,7 @@
 // The permission leaf for C and Rust, over plain numbers: a record's type, flags and word stand with the caller, and what a call
 // changes is written where the caller says. Each function is the leaf's own, with the leaf's promise; nothing is decided here.
 #![tactic(auto)]
+
 ghost use Rattle.std.specs.Prelude.{◌≡◌};
 ghost use Rattle.userspace_names.specs.Names.{mode_of};
 ghost use Rattle.userspace_c.specs.Exported.{Grants, Revokes, Recycles, Queries, may_use, valid_code};

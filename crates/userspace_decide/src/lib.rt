@@ -1,6 +1,7 @@
 // The permission leaf's decisions on plain values: upstream's `*_decide` functions, which the record's functions are made of.
 // What is promised: each function is the definition of specs/Decide for every number and yes or no; the refusals come in the order of docs/SPEC.md, 4.
 #![tactic(auto)]
+
 ghost use Rattle.std.specs.Prelude.{◌≡◌, ◌||◌};
 ghost use Rattle.bits.specs.Bit.{set_bit, clear_bit};
 ghost use Rattle.userspace_names.specs.Names.{mode_of};

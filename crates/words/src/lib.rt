@@ -2,6 +2,7 @@
 // Promised of `put_call` and `put_answer`: the words of specs/Words.antt at the place that was asked for, where the widest words would have room there, and the
 // place behind them; else nothing is put, and the place is the one asked for (`Placed`, specs/Placed.antt). What lies around them stays.
 #![tactic(auto)]
+
 ghost use Rattle.std.specs.Prelude.{◌≡◌, ◌+◌, ◌*◌, ◌<◌, ◌≤◌, ◌++◌, length, drop, if◌then◌else◌};
 ghost use Rattle.text.specs.Text.{ascii, decimal};
 ghost use Rattle.lines.specs.Steps.{Piece};

@@ -10,7 +10,7 @@ use Rattle.calls.proofs.turn.Reads as turn-reads
 use Rattle.calls.proofs.run_whole.Given as goal
 
 abbrev pub invariant-loop-k : goal.invariant-loop-k
-invariant-loop-k l = (l.k ≤ l.initial.slots) × (Ranged (state_of l.initial.objects l.objects l.initial.threads) l.threads l.slots l.k l.n l.initial.out l.out l.initial.k × (length l.initial.k ≡ length l.slots))
+invariant-loop-k l = (l.k ≤ l.n) × (Ranged (state_of l.initial.objects l.initial.threads l.initial.slots) l.log l.initial.out l.k l.objects l.threads l.slots l.out × (length l.out ≡ length l.initial.out))
 
 abbrev pub decreases-loop-k : goal.decreases-loop-k
-decreases-loop-k l = l.initial.slots - l.k
+decreases-loop-k l = l.n - l.k

@@ -13,7 +13,7 @@ use Rattle.os.proofs.arg_count.Reads as arg-count-reads
 use Rattle.command.proofs.all_asked.Given as goal
 
 abbrev pub invariant-loop-i : goal.invariant-loop-i
-invariant-loop-i l = l.initial.i.what < 6
+invariant-loop-i l = l.a.what < 6
 
 abbrev pub decreases-loop-i : goal.decreases-loop-i
-decreases-loop-i l = l.a - l.i
+decreases-loop-i l = l.n - l.i

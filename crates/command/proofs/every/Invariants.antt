@@ -8,7 +8,7 @@ use Rattle.command.proofs.turn.Reads as turn-reads
 use Rattle.command.proofs.every.Given as goal
 
 abbrev pub invariant-loop-turns : goal.invariant-loop-turns
-invariant-loop-turns l = Kept l.initial.objects l.objects l.initial.threads l.threads l.initial.slots l.slots l.out l.initial.text l.text l.words l.initial.t l.t × Ready l.initial.log l.out l.initial.text l.text l.words l.initial.t l.t l.initial.turns.have
+invariant-loop-turns l = Kept l.initial.objects l.initial.threads l.initial.slots l.initial.log l.initial.out l.initial.text l.objects l.threads l.slots l.log l.out l.text × Ready l.words l.objects l.threads l.slots l.log l.out l.text l.t.have
 
 abbrev pub decreases-loop-turns : goal.decreases-loop-turns
 decreases-loop-turns l = l.turns

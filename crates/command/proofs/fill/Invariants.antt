@@ -12,7 +12,7 @@ use Rattle.command.proofs.read_more.Reads as read-more-reads
 use Rattle.command.proofs.fill.Given as goal
 
 abbrev pub invariant-loop-done : goal.invariant-loop-done
-invariant-loop-done l = (l.done ≤ length l.initial.done) × (length l.initial.done ≡ length l.initial.buf)
+invariant-loop-done l = (l.done ≤ length l.buf) × (length l.buf ≡ length l.initial.buf)
 
 abbrev pub decreases-loop-done : goal.decreases-loop-done
 decreases-loop-done l = length l.initial.buf - l.done

@@ -9,7 +9,7 @@ use Rattle.std.proofs.num.wrapping_add_u32.Reads as wrapping-add-u32-reads
 use Rattle.explain.proofs.put_all.Given as goal
 
 abbrev pub invariant-loop-k : goal.invariant-loop-k
-invariant-loop-k l = (l.k ≤ l.out) × ((length l.initial.number ≡ length l.initial.text) × (Piece l.initial.text 0 (longest_line * l.k) (cat (explained_at l.text l.first l.log) l.k) l.number l.initial.number × (l.initial.k ≡ number_at l.text l.k)))
+invariant-loop-k l = (l.k ≤ l.n) × ((length l.text ≡ length l.initial.text) × (Piece l.initial.text 0 (longest_line * l.k) (cat (explained_at l.first l.log l.out) l.k) l.at l.text × (l.number ≡ number_at l.first l.k)))
 
 abbrev pub decreases-loop-k : goal.decreases-loop-k
-decreases-loop-k l = l.out - l.k
+decreases-loop-k l = l.n - l.k

@@ -12,19 +12,19 @@ overflow_add-p c = omega (arith, put_most _ _ _ _ _ c.put_word.ensures)
 pub overflow_add-q : goal.overflow_add-q
 unfolding cut_off
 overflow_add-q c = omega (
-      arith,
-      put_most _ _ _ _ _ c.put_word.ensures,
-      number_most _ _ _ _ _ c.put_number.ensures,
-    )
+  arith,
+  put_most _ _ _ _ _ c.put_word.ensures,
+  number_most _ _ _ _ _ c.put_number.ensures,
+)
 
 pub overflow_add-result : goal.overflow_add-result
 unfolding cut_off
 overflow_add-result c = omega (
-      arith,
-      put_most _ _ _ _ _ c.put_word.ensures,
-      number_most _ _ _ _ _ c.put_number.ensures,
-      put_most _ _ _ _ _ c.put_word-2.ensures,
-    )
+  arith,
+  put_most _ _ _ _ _ c.put_word.ensures,
+  number_most _ _ _ _ _ c.put_number.ensures,
+  put_most _ _ _ _ _ c.put_word-2.ensures,
+)
 
 pub returns : goal.returns
 unfolding cut_off

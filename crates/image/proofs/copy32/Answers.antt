@@ -8,7 +8,7 @@ use Rattle.image_write.proofs.Bytes.{copy_turn, sets_all}
 use Rattle.image.proofs.copy32.Goals as goal
 
 pub returns-then-not-fine : goal.returns-then-not-fine
-returns-then-not-fine c = rw (not-true c.args.fine c.if-not-fine.true) refl
+returns-then-not-fine c = rw c.if-not-fine.true refl
 
 pub loop-i-init : goal.loop-i-init
 loop-i-init c = (omega arith, (refl, refl))
@@ -38,4 +38,4 @@ pub shape_of-dst : goal.shape_of-dst
 shape_of-dst c = omega arith
 
 pub returns : goal.returns
-returns c = let l = c.loop-i in let z : l.i ≡ length c.args.src.now = omega arith in rw (not-false c.args.fine c.if-not-fine.false) (rw (z, drop-length) at l.invariant.1.1 ∙ sets_all c.args.src.now c.args.dst.now c.requires)
+returns c = let l = c.loop-i in let z : l.i ≡ length c.args.src.now = omega arith in rw c.if-not-fine.false (rw (z, drop-length) at l.invariant.1.1 ∙ sets_all c.args.src.now c.args.dst.now c.requires)

@@ -9,7 +9,7 @@ use Rattle.image.proofs.Turns.{get_turn, get_most, get_fits}
 use Rattle.image.proofs.get.Given as goal
 
 abbrev pub invariant-loop-k : goal.invariant-loop-k
-invariant-loop-k l = (l.k ≤ l.n) × ((l.initial.k ≡ le (l.n - l.k) l.s (l.at + l.k)) × (l.initial.k < 256 ^ (l.n - l.k)))
+invariant-loop-k l = (l.k ≤ l.n) × ((l.r ≡ le (l.n - l.k) l.s (l.at + l.k)) × (l.r < 256 ^ (l.n - l.k)))
 
 abbrev pub decreases-loop-k : goal.decreases-loop-k
 decreases-loop-k l = l.k

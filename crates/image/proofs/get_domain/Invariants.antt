@@ -13,7 +13,7 @@ use lib.Seq.{sets}
 use Rattle.image.proofs.get_domain.Given as goal
 
 abbrev pub invariant-loop-k : goal.invariant-loop-k
-invariant-loop-k l = (l.k ≤ 48) × ((length l.initial.k ≡ 48) × (l.initial.k ≡ sets l.initial.slots 0 (cat (λ (j : ℕ). le 4 l.rec (4 * j) ∷ []) l.k)))
+invariant-loop-k l = (l.k ≤ 48) × ((length l.slots ≡ 48) × (l.slots ≡ sets l.initial.slots 0 (cat (λ (j : ℕ). le 4 l.rec (4 * j) ∷ []) l.k)))
 
 abbrev pub decreases-loop-k : goal.decreases-loop-k
 decreases-loop-k l = 48 - l.k

@@ -76,7 +76,6 @@ shape_of-slots c = c.loop-d.invariant.1.0 ∙ sym c.requires.1
 pub returns : goal.returns
 unfolding domains_in
 returns c = let l = c.loop-d in
-    let s = c.before in
-    let f = domain_in s.args.image.now s.args.at in
+    let f = domain_in c.args.image.now c.args.at in
     let z : l.d ≡ 8 = omega arith in
-    rw z at l.invariant.1.1 ∙ sets_all (cat f 8) s.args.slots.now (cat_length f 48 8 (λ k. domain_length _) ∙ sym s.requires.1)
+    rw z at l.invariant.1.1 ∙ sets_all (cat f 8) c.args.slots.now (cat_length f 48 8 (λ k. domain_length _) ∙ sym c.requires.1)

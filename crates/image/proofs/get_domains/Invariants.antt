@@ -11,7 +11,7 @@ use lib.Seq.{sets, length-sets}
 use Rattle.image.proofs.get_domains.Given as goal
 
 abbrev pub invariant-loop-d : goal.invariant-loop-d
-invariant-loop-d l = (l.d ≤ 8) × ((length l.initial.d ≡ 384) × (l.initial.d ≡ sets l.initial.slots 0 (cat (domain_in l.image l.at) l.d)))
+invariant-loop-d l = (l.d ≤ 8) × ((length l.slots ≡ 384) × (l.slots ≡ sets l.initial.slots 0 (cat (domain_in l.image l.at) l.d)))
 
 abbrev pub decreases-loop-d : goal.decreases-loop-d
 decreases-loop-d l = 8 - l.d

@@ -9,7 +9,7 @@ use lib.Seq.{sets}
 use Rattle.image.proofs.get_objects.Given as goal
 
 abbrev pub invariant-loop-h : goal.invariant-loop-h
-invariant-loop-h l = (l.h ≤ l.objects) × ((length l.initial.h ≡ 512) × (l.initial.h ≡ sets l.initial.objects 0 (cat (object_in l.image) l.h)))
+invariant-loop-h l = (l.h ≤ l.n) × ((length l.objects ≡ 512) × (l.objects ≡ sets l.initial.objects 0 (cat (object_in l.image) l.h)))
 
 abbrev pub decreases-loop-h : goal.decreases-loop-h
-decreases-loop-h l = l.objects - l.h
+decreases-loop-h l = l.n - l.h

@@ -7,7 +7,7 @@ use lib.ListN.{length}
 use Rattle.image.proofs.get_threads.Given as goal
 
 abbrev pub invariant-loop-i : goal.invariant-loop-i
-invariant-loop-i l = (l.i ≤ l.threads) × ((length l.initial.i ≡ 192) × (l.initial.i ≡ entered l.image l.at l.initial.threads l.i))
+invariant-loop-i l = (l.i ≤ l.n) × ((length l.threads ≡ 192) × (l.threads ≡ entered l.image l.at l.initial.threads l.i))
 
 abbrev pub decreases-loop-i : goal.decreases-loop-i
-decreases-loop-i l = l.threads - l.i
+decreases-loop-i l = l.n - l.i

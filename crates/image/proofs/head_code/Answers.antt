@@ -14,13 +14,13 @@ pub slice_bounds-is_magic-end : goal.slice_bounds-is_magic-end
 slice_bounds-is_magic-end c = sym (length-take-le 8 (c.args.image.now) (omega arith))
 
 pub returns-then-not-is_magic : goal.returns-then-not-is_magic
-returns-then-not-is_magic c = not_magic _ c.if-image-lt-HEADER.false (via c.is_magic.ensures (not-true c.is_magic.result c.if-not-is_magic.true))
+returns-then-not-is_magic c = not_magic _ c.if-image-lt-HEADER.false (via c.is_magic.ensures c.if-not-is_magic.true)
 
 pub returns-then-not-fields_ok : goal.returns-then-not-fields_ok
-returns-then-not-fields_ok c = bad_fields _ c.if-image-lt-HEADER.false (via c.is_magic.ensures (not-false c.is_magic.result c.if-not-is_magic.false)) c.get-m.ensures.0 c.get-n.ensures.0 c.get-d.ensures.0 c.get-t.ensures.0 (via c.fields_ok.ensures (not-true c.fields_ok.result c.if-not-fields_ok.true))
+returns-then-not-fields_ok c = bad_fields _ c.if-image-lt-HEADER.false (via c.is_magic.ensures c.if-not-is_magic.false) c.get-m.ensures.0 c.get-n.ensures.0 c.get-d.ensures.0 c.get-t.ensures.0 (via c.fields_ok.ensures c.if-not-fields_ok.true)
 
 pub returns-then-image-t : goal.returns-then-image-t
-returns-then-image-t c = cut_off _ c.if-image-lt-HEADER.false (via c.is_magic.ensures (not-false c.is_magic.result c.if-not-is_magic.false)) c.get-m.ensures.0 c.get-n.ensures.0 c.get-d.ensures.0 c.get-t.ensures.0 (via c.fields_ok.ensures (not-false c.fields_ok.result c.if-not-fields_ok.false)) c.if-image-t.true
+returns-then-image-t c = cut_off _ c.if-image-lt-HEADER.false (via c.is_magic.ensures c.if-not-is_magic.false) c.get-m.ensures.0 c.get-n.ensures.0 c.get-d.ensures.0 c.get-t.ensures.0 (via c.fields_ok.ensures c.if-not-fields_ok.false) c.if-image-t.true
 
 pub returns : goal.returns
-returns c = good_head _ c.if-image-lt-HEADER.false (via c.is_magic.ensures (not-false c.is_magic.result c.if-not-is_magic.false)) c.get-m.ensures.0 c.get-n.ensures.0 c.get-d.ensures.0 c.get-t.ensures.0 (via c.fields_ok.ensures (not-false c.fields_ok.result c.if-not-fields_ok.false)) c.if-image-t.false
+returns c = good_head _ c.if-image-lt-HEADER.false (via c.is_magic.ensures c.if-not-is_magic.false) c.get-m.ensures.0 c.get-n.ensures.0 c.get-d.ensures.0 c.get-t.ensures.0 (via c.fields_ok.ensures c.if-not-fields_ok.false) c.if-image-t.false

@@ -7,7 +7,7 @@ use mathlib.Core.Logic.{⊎_elim}
 use Rattle.image_write.proofs.count_threads.Given as goal
 
 abbrev pub invariant-loop-t : goal.invariant-loop-t
-invariant-loop-t l = (l.t ≤ 64) × ((l.initial.t ≤ l.t) × (l.initial.t ≡ live l.threads l.t))
+invariant-loop-t l = (l.t ≤ 64) × ((l.n ≤ l.t) × (l.n ≡ live l.threads l.t))
 
 abbrev pub decreases-loop-t : goal.decreases-loop-t
 decreases-loop-t l = 64 - l.t

@@ -11,7 +11,7 @@ use Rattle.image_write.proofs.Bytes.{put_turn}
 use Rattle.image_write.proofs.put.Given as goal
 
 abbrev pub invariant-loop-k : goal.invariant-loop-k
-invariant-loop-k l = (l.initial.w ≤ l.at) × ((length l.k ≡ length l.initial.out) × (sets l.k (l.out + l.initial.w) (bytes (l.at - l.initial.w) l.w) ≡ sets l.initial.out l.out (bytes l.at l.n)))
+invariant-loop-k l = (l.k ≤ l.n) × ((length l.out ≡ length l.initial.out) × (sets l.out (l.at + l.k) (bytes (l.n - l.k) l.w) ≡ sets l.initial.out l.at (bytes l.n l.v)))
 
 abbrev pub decreases-loop-k : goal.decreases-loop-k
-decreases-loop-k l = l.at - l.initial.w
+decreases-loop-k l = l.n - l.k

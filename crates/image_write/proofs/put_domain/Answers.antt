@@ -58,7 +58,6 @@ shape_of-rec c = c.loop-k.invariant.1.0 ∙ sym c.requires.0
 pub returns : goal.returns
 unfolding domain_bytes
 returns c = let l = c.loop-k in
-    let s = c.before in
-    let f : ℕ → List ℕ = slot_bytes s.args.slots.now in
+    let f : ℕ → List ℕ = slot_bytes c.args.slots.now in
     let z : l.k ≡ 48 = omega arith in
-    rw z at l.invariant.1.1 ∙ sets_all (cat f 48) s.args.rec.now (cat_length f 4 48 (slot_length s.args.slots.now) ∙ sym s.requires.0)
+    rw z at l.invariant.1.1 ∙ sets_all (cat f 48) c.args.rec.now (cat_length f 4 48 (slot_length c.args.slots.now) ∙ sym c.requires.0)

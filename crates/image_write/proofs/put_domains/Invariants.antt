@@ -10,7 +10,7 @@ use lib.Seq.{sets, length-sets}
 use Rattle.image_write.proofs.put_domains.Given as goal
 
 abbrev pub invariant-loop-d : goal.invariant-loop-d
-invariant-loop-d l = (l.d ≤ 8) × ((length l.initial.d ≡ length l.initial.out) × (l.initial.d ≡ sets l.initial.out l.out (cat (domain_part l.at) l.d)))
+invariant-loop-d l = (l.d ≤ 8) × ((length l.out ≡ length l.initial.out) × (l.out ≡ sets l.initial.out l.at (cat (domain_part l.slots) l.d)))
 
 abbrev pub decreases-loop-d : goal.decreases-loop-d
 decreases-loop-d l = 8 - l.d

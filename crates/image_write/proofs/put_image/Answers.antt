@@ -6,12 +6,10 @@ use borrow.Author.Rules.{rules}
 use Rattle.image_write.proofs.put_image.Goals as goal
 
 pub put_threads-requires : goal.put_threads-requires
-put_threads-requires c = let s = c.before in
-    let h = threads_length s.args.threads.now 64 in
-    (s.requires.tables.threads, omega arith)
+put_threads-requires c = let h = threads_length c.args.threads.now 64 in
+    (c.requires.tables.threads, omega arith)
 
 pub returns : goal.returns
-returns c = let s = c.before in
-    let a = s.args in
-    encode_put a.objects.now a.threads.now a.slots.now a.out.now a.m a.n (16 + 12 * a.m) (16 + 12 * a.m + 8 * a.n) s.requires.m_is s.requires.n_is refl refl
+returns c = let a = c.args in
+    encode_put a.objects.now a.threads.now a.slots.now a.out.now a.m a.n (16 + 12 * a.m) (16 + 12 * a.m + 8 * a.n) c.requires.m_is c.requires.n_is refl refl
     c.put_header.ensures c.put_objects.ensures c.put_threads.ensures c.put_domains.ensures

@@ -9,7 +9,7 @@ use lib.Seq.{sets}
 use Rattle.image_write.proofs.put_objects.Given as goal
 
 abbrev pub invariant-loop-h : goal.invariant-loop-h
-invariant-loop-h l = (l.h ≤ l.objects) × ((length l.initial.h ≡ length l.initial.out) × (l.initial.h ≡ sets l.initial.out l.out (cat (object_bytes l.at) l.h)))
+invariant-loop-h l = (l.h ≤ l.n) × ((length l.out ≡ length l.initial.out) × (l.out ≡ sets l.initial.out l.at (cat (object_bytes l.objects) l.h)))
 
 abbrev pub decreases-loop-h : goal.decreases-loop-h
-decreases-loop-h l = l.objects - l.h
+decreases-loop-h l = l.n - l.h

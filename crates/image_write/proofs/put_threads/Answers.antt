@@ -14,10 +14,9 @@ loop-t-init c = (omega arith, (refl, (omega arith, refl)))
 
 pub put_thread-to-requires : goal.put_thread-to-requires
 put_thread-to-requires c = let l = c.loop-t in
-    let s = c.before in
-    let f = thread_bytes s.args.threads.now in
+    let f = thread_bytes c.args.threads.now in
     let h : length (cat f l.t) + length (f l.t) ≤ length (cat f 64) = cat_room f l.t 64 (omega arith) in
-    (omega arith, (s.requires.0, omega arith))
+    (omega arith, (c.requires.0, omega arith))
 
 pub overflow_add-t : goal.overflow_add-t
 overflow_add-t c = omega arith

@@ -9,7 +9,7 @@ use lib.Seq.{sets}
 use Rattle.image_write.proofs.put_threads.Given as goal
 
 abbrev pub invariant-loop-t : goal.invariant-loop-t
-invariant-loop-t l = (l.initial.to ≤ 64) × ((length l.t ≡ length l.initial.out) × ((l.to ≡ l.out + length (cat (thread_bytes l.at) l.initial.to)) × (l.t ≡ sets l.initial.out l.out (cat (thread_bytes l.at) l.initial.to))))
+invariant-loop-t l = (l.t ≤ 64) × ((length l.out ≡ length l.initial.out) × ((l.to ≡ l.at + length (cat (thread_bytes l.threads) l.t)) × (l.out ≡ sets l.initial.out l.at (cat (thread_bytes l.threads) l.t))))
 
 abbrev pub decreases-loop-t : goal.decreases-loop-t
-decreases-loop-t l = 64 - l.initial.to
+decreases-loop-t l = 64 - l.t

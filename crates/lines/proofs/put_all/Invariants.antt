@@ -10,7 +10,7 @@ use Rattle.lines.proofs.put_line.Reads as put-line-reads
 use Rattle.lines.proofs.put_all.Given as goal
 
 abbrev pub invariant-loop-k : goal.invariant-loop-k
-invariant-loop-k l = (l.k ≤ l.out) × ((length l.at ≡ length l.initial.text) × Piece l.initial.text 0 (22 * l.k) (cat (line_at l.text) l.k) l.initial.k l.at)
+invariant-loop-k l = (l.k ≤ l.n) × ((length l.text ≡ length l.initial.text) × Piece l.initial.text 0 (22 * l.k) (cat (line_at l.out) l.k) l.at l.text)
 
 abbrev pub decreases-loop-k : goal.decreases-loop-k
-decreases-loop-k l = l.out - l.k
+decreases-loop-k l = l.n - l.k

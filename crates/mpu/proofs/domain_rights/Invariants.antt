@@ -10,7 +10,7 @@ use Rattle.mpu.proofs.slot_holds.Reads as slot-holds-reads
 use Rattle.mpu.proofs.domain_rights.Given as goal
 
 abbrev pub invariant-loop-k : goal.invariant-loop-k
-invariant-loop-k l = (l.k ≤ 16) × (l.initial.k ≡ domain_to l.domain.partitions l.a l.k)
+invariant-loop-k l = (l.k ≤ 16) × (l.r ≡ domain_to l.domain.partitions l.a l.k)
 
 abbrev pub decreases-loop-k : goal.decreases-loop-k
 decreases-loop-k l = 16 - l.k

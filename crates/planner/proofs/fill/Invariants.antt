@@ -13,7 +13,7 @@ use Rattle.planner.proofs.fill_slot.Reads as fill-slot-reads
 use Rattle.planner.proofs.fill.Given as goal
 
 abbrev pub invariant-loop-k : goal.invariant-loop-k
-invariant-loop-k l = (l.k ≤ 16) × (l.initial.k ≡ active_to l.out.partitions l.k) × (l.m ≡ words_to l.out.partitions l.k ++ drop (active_to l.out.partitions l.k * 2) l.initial.out) × (length l.m ≡ length l.initial.out)
+invariant-loop-k l = (l.k ≤ 16) × (l.m ≡ active_to l.domain.partitions l.k) × (l.out ≡ words_to l.domain.partitions l.k ++ drop (active_to l.domain.partitions l.k * 2) l.initial.out) × (length l.out ≡ length l.initial.out)
 
 abbrev pub decreases-loop-k : goal.decreases-loop-k
 decreases-loop-k l = 16 - l.k

@@ -9,7 +9,7 @@ use Rattle.replaying.proofs.Parts.{room_even, room_odd, keep_turn, keep_done}
 use Rattle.replaying.proofs.keep.Given as goal
 
 abbrev pub invariant-loop-i : goal.invariant-loop-i
-invariant-loop-i l = (l.log + l.i ≤ l.from) × ((length l.initial.i ≡ length l.initial.log) × (l.initial.i ≡ paste l.initial.log 0 (drop l.log l.initial.log) l.i))
+invariant-loop-i l = (l.from + l.i ≤ l.n) × ((length l.log ≡ length l.initial.log) × (l.log ≡ paste l.initial.log 0 (drop l.from l.initial.log) l.i))
 
 abbrev pub decreases-loop-i : goal.decreases-loop-i
-decreases-loop-i l = l.from - (l.log + l.i)
+decreases-loop-i l = l.n - (l.from + l.i)

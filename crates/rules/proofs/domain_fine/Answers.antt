@@ -16,10 +16,10 @@ pub loop-k-init : goal.loop-k-init
 loop-k-init c = (search rules, all_none _)
 
 pub returns-then-not-slot_fine : goal.returns-then-not-slot_fine
-returns-then-not-slot_fine c = sym (sym (domain_fine c.args.slots.now c.args.d) ∙ all_fails (slot_fine c.args.slots.now (16 * c.args.d)) 16 c.loop-k.k (omega arith) (via c.slot_fine.ensures (not-true _ c.if-not-slot_fine.true)))
+returns-then-not-slot_fine c = sym (sym (domain_fine c.args.slots.now c.args.d) ∙ all_fails (slot_fine c.args.slots.now (16 * c.args.d)) 16 c.loop-k.k (omega arith) (via c.slot_fine.ensures c.if-not-slot_fine.true))
 
 pub loop-k-preserved : goal.loop-k-preserved
-loop-k-preserved c = (search rules, all_more _ _ c.loop-k.invariant.1 (via c.slot_fine.ensures (not-false _ c.if-not-slot_fine.false)))
+loop-k-preserved c = (search rules, all_more _ _ c.loop-k.invariant.1 (via c.slot_fine.ensures c.if-not-slot_fine.false))
 
 pub returns : goal.returns
 returns c = let e : c.loop-k.k ≡ 16 = omega arith in sym (sym (domain_fine c.args.slots.now c.args.d) ∙ (rw e at c.loop-k.invariant.1))

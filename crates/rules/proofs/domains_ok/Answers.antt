@@ -18,11 +18,11 @@ loop-d-init c = (search rules, all_none _)
 
 pub returns-then-not-domain_fine : goal.returns-then-not-domain_fine
 unfolding domains_sound
-returns-then-not-domain_fine c = sym (all_fails (λ k. slots_sound (partitions_at c.args.slots.now k)) 8 c.loop-d.d (omega arith) (via c.domain_fine.ensures (not-true _ c.if-not-domain_fine.true)))
+returns-then-not-domain_fine c = sym (all_fails (λ k. slots_sound (partitions_at c.args.slots.now k)) 8 c.loop-d.d (omega arith) (via c.domain_fine.ensures c.if-not-domain_fine.true))
 
 pub loop-d-preserved : goal.loop-d-preserved
 unfolding domains_sound
-loop-d-preserved c = (search rules, all_more (λ k. slots_sound (partitions_at c.args.slots.now k)) c.loop-d.d c.loop-d.invariant.1 (via c.domain_fine.ensures (not-false _ c.if-not-domain_fine.false)))
+loop-d-preserved c = (search rules, all_more (λ k. slots_sound (partitions_at c.args.slots.now k)) c.loop-d.d c.loop-d.invariant.1 (via c.domain_fine.ensures c.if-not-domain_fine.false))
 
 pub returns : goal.returns
 unfolding domains_sound

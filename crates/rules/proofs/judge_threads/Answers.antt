@@ -21,19 +21,19 @@ pub loop-t-init : goal.loop-t-init
 loop-t-init c = pass_none _ _
 
 pub returns-then-not-thread_ok : goal.returns-then-not-thread_ok
-returns-then-not-thread_ok c = turn_bad _ _ c.loop-t.invariant c.loop-t-test.true c.load_thread-r.ensures (via c.thread_ok.ensures (not-true _ c.if-not-thread_ok.true))
+returns-then-not-thread_ok c = turn_bad _ _ c.loop-t.invariant c.loop-t-test.true c.load_thread-r.ensures (via c.thread_ok.ensures c.if-not-thread_ok.true)
 
 pub is_served-requires : goal.is_served-requires
-is_served-requires c = live_handle _ _ (via c.thread_ok.ensures (not-false _ c.if-not-thread_ok.false)) c.if-r-ne0.true
+is_served-requires c = live_handle _ _ (via c.thread_ok.ensures c.if-not-thread_ok.false) c.if-r-ne0.true
 
 pub returns-then-is_served : goal.returns-then-is_served
-returns-then-is_served c = turn_twice _ _ c.loop-t.invariant c.loop-t-test.true c.load_thread-r.ensures (via c.thread_ok.ensures (not-false _ c.if-not-thread_ok.false)) c.if-r-ne0.true (via c.is_served.ensures c.if-is_served.true)
+returns-then-is_served c = turn_twice _ _ c.loop-t.invariant c.loop-t-test.true c.load_thread-r.ensures (via c.thread_ok.ensures c.if-not-thread_ok.false) c.if-r-ne0.true (via c.is_served.ensures c.if-is_served.true)
 
 pub with_served-next-requires : goal.with_served-next-requires
-with_served-next-requires c = live_handle _ _ (via c.thread_ok.ensures (not-false _ c.if-not-thread_ok.false)) c.if-r-ne0.true
+with_served-next-requires c = live_handle _ _ (via c.thread_ok.ensures c.if-not-thread_ok.false) c.if-r-ne0.true
 
 pub loop-t-preserved : goal.loop-t-preserved
-loop-t-preserved c = let k = via c.thread_ok.ensures (not-false _ c.if-not-thread_ok.false) in elim c.if-r-ne0.branch [ inl w ↦ turn_live _ _ c.loop-t.invariant c.loop-t-test.true c.load_thread-r.ensures k w.0.taken (via w.1.ensures w.2.left) (w.4 ∙ code_set _ _ c.loop-t-test.true) (w.5 ∙ w.3.ensures) | inr w ↦ turn_dead _ _ c.loop-t.invariant c.loop-t-test.true c.load_thread-r.ensures k w.0.left w.1 w.2 ]
+loop-t-preserved c = let k = via c.thread_ok.ensures c.if-not-thread_ok.false in elim c.if-r-ne0.branch [ inl w ↦ turn_live _ _ c.loop-t.invariant c.loop-t-test.true c.load_thread-r.ensures k w.0.taken (via w.1.ensures w.2.left) (w.4 ∙ code_set _ _ c.loop-t-test.true) (w.5 ∙ w.3.ensures) | inr w ↦ turn_dead _ _ c.loop-t.invariant c.loop-t-test.true c.load_thread-r.ensures k w.0.left w.1 w.2 ]
 
 pub returns : goal.returns
 returns c = pass_all _ _ _ _ _ c.loop-t.invariant c.loop-t-test.false

@@ -15,10 +15,10 @@ pub loop-h-init : goal.loop-h-init
 loop-h-init c = (search rules, all_none _)
 
 pub returns-then-not-object_ok : goal.returns-then-not-object_ok
-returns-then-not-object_ok c = sym (all_fails _ 256 c.loop-h.h (omega arith) (via c.object_ok.ensures (not-true _ c.if-not-object_ok.true)))
+returns-then-not-object_ok c = sym (all_fails _ 256 c.loop-h.h (omega arith) (via c.object_ok.ensures c.if-not-object_ok.true))
 
 pub loop-h-preserved : goal.loop-h-preserved
-loop-h-preserved c = (search rules, all_more _ _ c.loop-h.invariant.1 (via c.object_ok.ensures (not-false _ c.if-not-object_ok.false)))
+loop-h-preserved c = (search rules, all_more _ _ c.loop-h.invariant.1 (via c.object_ok.ensures c.if-not-object_ok.false))
 
 pub returns : goal.returns
 returns c = let e : c.loop-h.h ≡ 256 = omega arith in rw (← e) (sym c.loop-h.invariant.1)

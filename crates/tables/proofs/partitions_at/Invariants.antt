@@ -8,7 +8,7 @@ use Rattle.tables.proofs.load_partition.Reads as load-partition-reads
 use Rattle.tables.proofs.partitions_at.Given as goal
 
 abbrev pub invariant-loop-k : goal.invariant-loop-k
-invariant-loop-k l = Filling (λ j. partition_at l.slots (16 * l.d + j)) empty 16 l.initial.k l.k
+invariant-loop-k l = Filling (λ j. partition_at l.slots (16 * l.d + j)) empty 16 l.parts l.k
 
 abbrev pub decreases-loop-k : goal.decreases-loop-k
 decreases-loop-k l = 16 - l.k

@@ -9,7 +9,7 @@ use Rattle.tables.proofs.store_partition.Reads as store-partition-reads
 use Rattle.tables.proofs.store_domain.Given as goal
 
 abbrev pub invariant-loop-k : goal.invariant-loop-k
-invariant-loop-k l = (l.k ≤ 16) × (l.initial.k ≡ put_to l.initial.slots l.slots l.d.partitions l.k) × (length l.initial.k ≡ length l.initial.slots)
+invariant-loop-k l = (l.k ≤ 16) × (l.slots ≡ put_to l.initial.slots l.d l.m.partitions l.k) × (length l.slots ≡ length l.initial.slots)
 
 abbrev pub decreases-loop-k : goal.decreases-loop-k
 decreases-loop-k l = 16 - l.k

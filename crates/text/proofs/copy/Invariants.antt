@@ -8,7 +8,7 @@ use Rattle.text.proofs.Laws.{copy_turn}
 use Rattle.text.proofs.copy.Given as goal
 
 abbrev pub invariant-loop-i : goal.invariant-loop-i
-invariant-loop-i l = (l.i ≤ length l.at) × ((length l.initial.i ≡ length l.initial.text) × (sets l.initial.i (l.text + l.i) (drop l.i l.at) ≡ sets l.initial.text l.text l.at))
+invariant-loop-i l = (l.i ≤ length l.word) × ((length l.text ≡ length l.initial.text) × (sets l.text (l.at + l.i) (drop l.i l.word) ≡ sets l.initial.text l.at l.word))
 
 abbrev pub decreases-loop-i : goal.decreases-loop-i
-decreases-loop-i l = length l.at - l.i
+decreases-loop-i l = length l.word - l.i

@@ -16,5 +16,5 @@ spell-requires c = leb-true _ _ (sym (c.has_room.ensures) ∙ not-false (c.has_r
 
 pub returns : goal.returns
 returns c = number_put _ _ _ _ _ c.places-k.ensures
-    (sym c.has_room.ensures ∙ not-false c.has_room.result c.if-not-has_room.false)
+    (sym c.has_room.ensures ∙ c.if-not-has_room.false)
     c.spell.ensures

@@ -8,7 +8,7 @@ use Rattle.text.proofs.Laws.{spell_turn}
 use Rattle.text.proofs.spell.Given as goal
 
 abbrev pub invariant-loop-i : goal.invariant-loop-i
-invariant-loop-i l = (l.initial.rest ≤ l.at) × ((length l.i ≡ length l.initial.text) × (sets l.i l.text (digits l.initial.rest l.rest) ≡ sets l.initial.text l.text (digits l.at l.k)))
+invariant-loop-i l = (l.i ≤ l.k) × ((length l.text ≡ length l.initial.text) × (sets l.text l.at (digits l.i l.rest) ≡ sets l.initial.text l.at (digits l.k l.n)))
 
 abbrev pub decreases-loop-i : goal.decreases-loop-i
-decreases-loop-i l = l.initial.rest
+decreases-loop-i l = l.i

@@ -9,7 +9,7 @@ use Rattle.text.proofs.hex_digit.Reads as hex-digit-reads
 use Rattle.text.proofs.spell_hex.Given as goal
 
 abbrev pub invariant-loop-i : goal.invariant-loop-i
-invariant-loop-i l = (l.initial.rest ≤ l.at) × ((length l.i ≡ length l.initial.text) × (sets l.i l.text (hex_digits l.initial.rest l.rest) ≡ sets l.initial.text l.text (hex_digits l.at l.k)))
+invariant-loop-i l = (l.i ≤ l.k) × ((length l.text ≡ length l.initial.text) × (sets l.text l.at (hex_digits l.i l.rest) ≡ sets l.initial.text l.at (hex_digits l.k l.n)))
 
 abbrev pub decreases-loop-i : goal.decreases-loop-i
-decreases-loop-i l = l.initial.rest
+decreases-loop-i l = l.i

@@ -5,7 +5,7 @@ use borrow.Author.Rules.{rules}
 use Rattle.try_image.proofs.back.Given as goal
 
 abbrev pub invariant-loop-k : goal.invariant-loop-k
-invariant-loop-k l = (l.k ≤ l.bytes) × (length l.initial.k ≡ length l.initial.bytes)
+invariant-loop-k l = (l.k ≤ l.n) × (length l.bytes ≡ length l.initial.bytes)
 
 abbrev pub decreases-loop-k : goal.decreases-loop-k
-decreases-loop-k l = l.bytes - l.k
+decreases-loop-k l = l.n - l.k

@@ -5,7 +5,7 @@ use borrow.Author.Rules.{rules}
 use Rattle.try_image.proofs.read_again.Given as goal
 
 abbrev pub invariant-loop-k : goal.invariant-loop-k
-invariant-loop-k l = (length l.c ≡ length l.initial.objects) × (length l.initial.good ≡ length l.objects) × (length l.good ≡ length l.initial.threads) × (length l.initial.k ≡ length l.threads)
+invariant-loop-k l = (length l.threads ≡ length l.initial.objects) × (length l.slots ≡ length l.initial.threads) × (length l.bytes ≡ length l.initial.slots) × (length l.good ≡ length l.initial.bytes)
 
 abbrev pub decreases-loop-k : goal.decreases-loop-k
-decreases-loop-k l = l.initial.slots - k
+decreases-loop-k l = l.a - k

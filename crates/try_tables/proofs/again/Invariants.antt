@@ -9,7 +9,7 @@ use Rattle.try_tables.proofs.word.Reads as word-reads
 use Rattle.try_tables.proofs.again.Given as goal
 
 abbrev pub invariant-loop-k : goal.invariant-loop-k
-invariant-loop-k l = length l.initial.k ≡ length l.initial.objects
+invariant-loop-k l = length l.good ≡ length l.initial.objects
 
 abbrev pub decreases-loop-k : goal.decreases-loop-k
-decreases-loop-k l = l.slots - k
+decreases-loop-k l = l.a - k

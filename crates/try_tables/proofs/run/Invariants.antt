@@ -6,7 +6,7 @@ use Rattle.try_tables.proofs.step.Reads as step-reads
 use Rattle.try_tables.proofs.run.Given as goal
 
 abbrev pub invariant-loop-at : goal.invariant-loop-at
-invariant-loop-at l = (length l.cases ≡ length l.initial.objects) × (length l.n ≡ length l.objects) × (length l.initial.at ≡ length l.initial.threads)
+invariant-loop-at l = (length l.objects ≡ length l.initial.objects) × (length l.threads ≡ length l.initial.threads) × (length l.slots ≡ length l.initial.slots)
 
 abbrev pub decreases-loop-at : goal.decreases-loop-at
-decreases-loop-at l = l.initial.slots - l.at
+decreases-loop-at l = l.n - l.at

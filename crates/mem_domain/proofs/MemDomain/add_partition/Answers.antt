@@ -14,13 +14,13 @@ pub refuse-requires : goal.refuse-requires
 refuse-requires c = tt
 
 pub returns-then-not-ok : goal.returns-then-not-ok
-returns-then-not-ok c = c.refuse.ensures ∙ sym (added_bad _ _ (sym c.check_add_partition-ok.ensures ∙ not-true _ c.if-not-ok.true))
+returns-then-not-ok c = c.refuse.ensures ∙ sym (added_bad _ _ (sym c.check_add_partition-ok.ensures ∙ c.if-not-ok.true))
 
 pub returns-then-k-ge-SLOTS : goal.returns-then-k-ge-SLOTS
-returns-then-k-ge-SLOTS c = c.refuse-then-k-ge-SLOTS.ensures ∙ sym (added_full _ _ (sym c.check_add_partition-ok.ensures ∙ not-false _ c.if-not-ok.false) (has_free_lem _ ∙ le-ltb _ _ (rw c.first_free-k.ensures at c.if-k-ge-SLOTS.true)))
+returns-then-k-ge-SLOTS c = c.refuse-then-k-ge-SLOTS.ensures ∙ sym (added_full _ _ (sym c.check_add_partition-ok.ensures ∙ c.if-not-ok.false) (has_free_lem _ ∙ le-ltb _ _ (rw c.first_free-k.ensures at c.if-k-ge-SLOTS.true)))
 
 pub put-requires : goal.put-requires
 put-requires c = c.if-k-ge-SLOTS.false
 
 pub returns : goal.returns
-returns c = c.put.ensures ∙ rw c.first_free-k.ensures (sym (added_ok _ _ (sym c.check_add_partition-ok.ensures ∙ not-false _ c.if-not-ok.false) (has_free_lem _ ∙ lt-ltb _ _ (rw c.first_free-k.ensures at c.if-k-ge-SLOTS.false))))
+returns c = c.put.ensures ∙ rw c.first_free-k.ensures (sym (added_ok _ _ (sym c.check_add_partition-ok.ensures ∙ c.if-not-ok.false) (has_free_lem _ ∙ lt-ltb _ _ (rw c.first_free-k.ensures at c.if-k-ge-SLOTS.false))))
