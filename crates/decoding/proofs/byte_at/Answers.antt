@@ -6,4 +6,4 @@ use Rattle.decoding.proofs.wide.Reads as wide-reads
 use Rattle.decoding.proofs.byte_at.Goals as goal
 
 pub returns-else-i-bytes : goal.returns-else-i-bytes
-returns-else-i-bytes c = (sym (get_or-eq_default (c.args.bytes.now) 0 (c.if-i-bytes.false)), omega arith)
+returns-else-i-bytes c = (sym (get_or-eq_default c.args.bytes.now 0 c.if-i-bytes.false), omega arith)

@@ -10,7 +10,7 @@ use Rattle.domain_rules.proofs.slot_sound.Goals as goal
 
 pub returns-then-p-eq0 : goal.returns-then-p-eq0
 unfolding slot_sound
-returns-then-p-eq0 c = rw (via c.slot_ok.ensures c.if-slot_ok.true) (sym (free_clear (slot_at c.args.t1.partitions) _ _ c.if-p-eq0.true))
+returns-then-p-eq0 c = rw (via c.slot_ok.ensures c.if-slot_ok.true) (sym (free_clear (slot_at c.args.domain.partitions) _ _ c.if-p-eq0.true))
 
 pub returns-then-slot_ok : goal.returns-then-slot_ok
 unfolding slot_sound

@@ -11,7 +11,7 @@ pub returns-then-image-lt-HEADER : goal.returns-then-image-lt-HEADER
 returns-then-image-lt-HEADER c = too_short _ c.if-image-lt-HEADER.true
 
 pub slice_bounds-is_magic-end : goal.slice_bounds-is_magic-end
-slice_bounds-is_magic-end c = sym (length-take-le 8 (c.args.image.now) (omega arith))
+slice_bounds-is_magic-end c = sym (length-take-le 8 c.args.image.now (omega arith))
 
 pub returns-then-not-is_magic : goal.returns-then-not-is_magic
 returns-then-not-is_magic c = not_magic _ c.if-image-lt-HEADER.false (via c.is_magic.ensures c.if-not-is_magic.true)

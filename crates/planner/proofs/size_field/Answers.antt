@@ -9,7 +9,7 @@ pub returns-then-n-ne1 : goal.returns-then-n-ne1
 returns-then-n-ne1 c = sym (field_not_one _ c.if-n-ne1.true)
 
 pub returns-then-t-eq0 : goal.returns-then-t-eq0
-returns-then-t-eq0 c = let e = field_one _ (c.ranges.size.fits) c.if-n-ne1.false in omega arith
+returns-then-t-eq0 c = let e = field_one _ c.ranges.size.fits c.if-n-ne1.false in omega arith
 
 pub returns : goal.returns
-returns c = sym (field_one _ (c.ranges.size.fits) c.if-n-ne1.false)
+returns c = sym (field_one _ c.ranges.size.fits c.if-n-ne1.false)

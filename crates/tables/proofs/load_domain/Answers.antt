@@ -6,4 +6,4 @@ use Rattle.tables.proofs.partitions_at.Reads as partitions-at-reads
 use Rattle.tables.proofs.load_domain.Goals as goal
 
 pub returns : goal.returns
-returns c = c.counted.ensures ∙ simp (c.partitions_at-partitions.ensures)
+returns c = c.counted.ensures ∙ simp c.partitions_at-partitions.ensures

@@ -5,7 +5,7 @@ use borrow.Author.Rules.{rules}
 use Rattle.text.proofs.has_room.Goals as goal
 
 pub returns-then-text-at : goal.returns-then-text-at
-returns-then-text-at c = past _ _ _ (c.if-text-at.true)
+returns-then-text-at c = past _ _ _ c.if-text-at.true
 
 pub returns : goal.returns
-returns c = within _ _ _ (c.if-text-at.false)
+returns c = within _ _ _ c.if-text-at.false

@@ -9,10 +9,10 @@ use Rattle.text.proofs.spell.Reads as spell-reads
 use Rattle.text.proofs.put_number.Goals as goal
 
 pub returns-then-not-has_room : goal.returns-then-not-has_room
-returns-then-not-has_room c = no_room _ _ _ _ (decimal_length _ ∙ sym (c.places-k.ensures)) (sym (c.has_room.ensures) ∙ not-true (c.has_room.result) (c.if-not-has_room.true))
+returns-then-not-has_room c = no_room _ _ _ _ (decimal_length _ ∙ sym c.places-k.ensures) (sym c.has_room.ensures ∙ c.if-not-has_room.true)
 
 pub spell-requires : goal.spell-requires
-spell-requires c = leb-true _ _ (sym (c.has_room.ensures) ∙ not-false (c.has_room.result) (c.if-not-has_room.false))
+spell-requires c = leb-true _ _ (sym c.has_room.ensures ∙ c.if-not-has_room.false)
 
 pub returns : goal.returns
 returns c = number_put _ _ _ _ _ c.places-k.ensures

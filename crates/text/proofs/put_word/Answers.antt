@@ -7,10 +7,10 @@ use Rattle.text.proofs.has_room.Reads as has-room-reads
 use Rattle.text.proofs.put_word.Goals as goal
 
 pub returns-then-not-has_room : goal.returns-then-not-has_room
-returns-then-not-has_room c = no_room _ _ _ _ refl (sym (c.has_room.ensures) ∙ not-true (c.has_room.result) (c.if-not-has_room.true))
+returns-then-not-has_room c = no_room _ _ _ _ refl (sym c.has_room.ensures ∙ c.if-not-has_room.true)
 
 pub copy-requires : goal.copy-requires
-copy-requires c = leb-true _ _ (sym (c.has_room.ensures) ∙ not-false (c.has_room.result) (c.if-not-has_room.false))
+copy-requires c = leb-true _ _ (sym c.has_room.ensures ∙ c.if-not-has_room.false)
 
 pub returns : goal.returns
-returns c = has_put _ _ _ _ _ refl (sym (c.has_room.ensures) ∙ not-false (c.has_room.result) (c.if-not-has_room.false)) (c.copy.ensures)
+returns c = has_put _ _ _ _ _ refl (sym c.has_room.ensures ∙ c.if-not-has_room.false) c.copy.ensures

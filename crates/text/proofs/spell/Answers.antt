@@ -29,7 +29,7 @@ pub loop-i-smaller : goal.loop-i-smaller
 loop-i-smaller c = omega arith
 
 pub loop-i-preserved : goal.loop-i-preserved
-loop-i-preserved c = (omega arith, (simp length-set c.loop-i.invariant.1.0, sym (spell_turn (c.loop-i.text) (c.args.at) (c.loop-i.i) (c.loop-i.rest) (omega arith)) ∙ c.loop-i.invariant.1.1))
+loop-i-preserved c = (omega arith, (simp length-set c.loop-i.invariant.1.0, sym (spell_turn c.loop-i.text c.args.at c.loop-i.i c.loop-i.rest (omega arith)) ∙ c.loop-i.invariant.1.1))
 
 pub shape_of-text : goal.shape_of-text
 shape_of-text c = omega arith

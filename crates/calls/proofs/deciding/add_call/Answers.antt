@@ -26,4 +26,4 @@ returns-then-not-attr_ok c = c.plain_answer-then-not-attr_ok.ensures ∙ sym (st
 
 pub returns : goal.returns
 unfolding add_in well_formed
-returns c = ap slot_answer (c.add_partition-r.ensures ∙ ap (λ (m : MemDomain). added m (partition_of (c.args.c))) (c.load_domain-d.ensures ∙ ap with_count (sym (domain_of_lem (c.args.slots.now) (c.args.c.a) c.if-c-ge-DOMAINS.false)))) ∙ sym (pass_not Einval _ (both (lt-ltb _ _ c.if-c-ge-DOMAINS.false) (via_yes c.attr_ok.ensures c.if-not-attr_ok.false)))
+returns c = ap slot_answer (c.add_partition-r.ensures ∙ ap (λ (m : MemDomain). added m (partition_of c.args.c)) (c.load_domain-d.ensures ∙ ap with_count (sym (domain_of_lem c.args.slots.now c.args.c.a c.if-c-ge-DOMAINS.false)))) ∙ sym (pass_not Einval _ (both (lt-ltb _ _ c.if-c-ge-DOMAINS.false) (via_yes c.attr_ok.ensures c.if-not-attr_ok.false)))

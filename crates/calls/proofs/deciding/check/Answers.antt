@@ -25,4 +25,4 @@ returns-then-c-gt1 c = c.plain_answer-then-c-gt1.ensures ∙ sym (stop_not Einva
 
 pub returns : goal.returns
 unfolding check_in well_formed
-returns c = c.memory_check.ensures ∙ rw (slots_in_lem (c.args.slots.now) (c.thread_in-me.result.domain) c.requires.1, c.thread_in-me.ensures) (sym (pass_not Einval _ (both (eq-eqb _ _ c.if-c-ne0.false) (lt-ltb (c.args.c.d) 2 (omega (arith, c.if-c-gt1.false))))))
+returns c = c.memory_check.ensures ∙ rw (slots_in_lem c.args.slots.now c.thread_in-me.result.domain c.requires.1, c.thread_in-me.ensures) (sym (pass_not Einval _ (both (eq-eqb _ _ c.if-c-ne0.false) (lt-ltb c.args.c.d 2 (omega (arith, c.if-c-gt1.false))))))

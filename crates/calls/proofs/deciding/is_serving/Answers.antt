@@ -10,7 +10,7 @@ use Rattle.calls.proofs.deciding.thread_in.Reads as thread-in-reads
 use Rattle.calls.proofs.deciding.is_serving.Goals as goal
 
 pub returns-then-who-ne0 : goal.returns-then-who-ne0
-returns-then-who-ne0 c = sym (all_of_first (c.args.h) c.thread_in-who.ensures c.if-who-ne0.true)
+returns-then-who-ne0 c = sym (all_of_first c.args.h c.thread_in-who.ensures c.if-who-ne0.true)
 
 pub returns : goal.returns
 returns c = sym (first_fails _ (ap (λ (r : Thread). not (eqb r.role 0)) (sym c.thread_in-who.ensures) ∙ ap not (eq-eqb _ _ c.if-who-ne0.false)))

@@ -25,4 +25,4 @@ returns-then-c-ne0 c = c.plain_answer-then-c-ne0.ensures ∙ sym (stop_not Einva
 
 pub returns : goal.returns
 unfolding remove_in well_formed
-returns c = ap slot_answer (c.remove_partition-r.ensures ∙ ap (λ (m : MemDomain). removed m (c.args.c.b) (c.args.c.c)) (c.load_domain-d.ensures ∙ ap with_count (sym (domain_of_lem (c.args.slots.now) (c.args.c.a) c.if-c-ge-DOMAINS.false)))) ∙ sym (pass_not Einval _ (both (lt-ltb _ _ c.if-c-ge-DOMAINS.false) (eq-eqb _ _ c.if-c-ne0.false)))
+returns c = ap slot_answer (c.remove_partition-r.ensures ∙ ap (λ (m : MemDomain). removed m c.args.c.b c.args.c.c) (c.load_domain-d.ensures ∙ ap with_count (sym (domain_of_lem c.args.slots.now c.args.c.a c.if-c-ge-DOMAINS.false)))) ∙ sym (pass_not Einval _ (both (lt-ltb _ _ c.if-c-ge-DOMAINS.false) (eq-eqb _ _ c.if-c-ne0.false)))

@@ -26,4 +26,4 @@ returns-then-c-eq23 c = c.create_thread_rule.ensures ∙ rw c.if-c-eq23.true
 
 pub returns : goal.returns
 unfolding op_of rule sup_rule
-returns c = c.plain_answer.ensures ∙ sym (plain_rule _ _ (c.args.c.op) (omega arith) (omega arith))
+returns c = c.plain_answer.ensures ∙ sym (plain_rule _ _ c.args.c.op (omega arith) (omega arith))

@@ -15,4 +15,4 @@ returns-then-end_u64-other c = simp (le-ltb _ _ (rw c.end_u64.ensures at c.if-en
 
 pub returns : goal.returns
 unfolding meets overlap_of
-returns c = and_past (lt-ltb _ _ (rw c.end_u64.ensures at c.if-end_u64-other.false)) (ap (λ e. ltb (c.args.self.start) e) c.end_u64-2.ensures)
+returns c = and_past (lt-ltb _ _ (rw c.end_u64.ensures at c.if-end_u64-other.false)) (ap (λ e. ltb c.args.self.start e) c.end_u64-2.ensures)
