@@ -82,7 +82,7 @@ fn put_words(errors: Stderr, why: io::Error) {
     let mut text = [0u8; 128];
     let mut free: &mut [u8] = &mut text;
     let _ = write!(free, "{why}");
-    let n = 128 - free.len();
+    let n = 128usize.saturating_sub(free.len());
     let n = words_len(&text[..n]);
     let _ = Print::write_all(&errors, &text[..n]);
 }
