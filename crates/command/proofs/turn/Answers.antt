@@ -1,20 +1,13 @@
-use native.Mathlib.Omega.{arith}
-use mathlib.Core.Path.{◌≡◌, refl, sym, ap, ◌∙◌}
-use Rattle.command.specs.Ready.{Ready}
-use Rattle.command.proofs.Laws.{same_room, fed_bytes, fed_ready, status_known}
-use borrow.Author.Rules.{rules}
-use Rattle.command.proofs.emit.Reads as emit-reads
-use Rattle.command.proofs.fail.Reads as fail-reads
-use Rattle.command.proofs.read_more.Reads as read-more-reads
-use Rattle.command.proofs.status_of.Reads as status-of-reads
-use Rattle.replaying.proofs.feed.Reads as feed-reads
+use Rattle.std.proofs.Common.{rules, ◌≡◌, cond, ◌&&◌, not, ◌+◌, ◌≤◌, ◌<◌, eqb, length, get_or, IfOk, ℕ, ◌-◌, ◌*◌, ◌/◌, ◌%◌, Bool, true, false, nat_lt, List, [], ◌∷◌, ◌++◌, slice_set, bit_and, bit_or, Fits, w8, w32, w64, Bor, MutBor}
+use Rattle.rules.specs.Rules.{Sound}
+use Rattle.command.specs.Ready.{Roomy, Ready}
+use Rattle.command.specs.Counts.{IsPrefixLen}
 use Rattle.command.proofs.turn.Goals as goal
 
-pub returns-then-got : goal.returns-then-got
-returns-then-got c = (search rules, record { sound = c.requires.sound; room = same_room c.read_more-got.auto.1.0 refl refl c.requires.room; less = c.requires.less })
-
+-- src/lib.rt:391:17
 pub emit-requires : goal.emit-requires
-emit-requires c = (fed_bytes c.feed-fed.ensures c.requires.sound (same_room c.read_more-got.auto.1.0 refl refl c.requires.room), status_known c.read_more-got.result.bytes c.status_of.ensures)
+emit-requires c = ?
 
+-- src/lib.rt:363:1
 pub returns : goal.returns
-returns c = (c.emit.ensures, fed_ready c.feed-fed.ensures c.requires.sound (same_room c.read_more-got.auto.1.0 refl refl c.requires.room) c.feed-fed.auto.1.1.1.1.0 c.feed-fed.auto.1.1.1.1.1.1.1.1.0 c.feed-fed.auto.1.1.1.1.1.1.1.1.1.0)
+returns c = ?
