@@ -1,8 +1,5 @@
-use Rattle.std.proofs.Common.{◌≡◌, cond, ◌&&◌, not, ◌+◌, ◌≤◌, ◌<◌, eqb, length, get_or, IfOk, ℕ, ◌-◌, ◌*◌}
-use Rattle.rules.specs.Rules.{Sound}
-use Rattle.command.specs.Ready.{Roomy, Ready}
-use Rattle.command.specs.Counts.{IsPrefixLen}
+use Rattle.command.specs.Ready.{Ready}
 use Rattle.command.proofs.every.Given as goal
 
 abbrev pub invariant-loop : goal.invariant-loop
-invariant-loop l = ?
+invariant-loop l = Ready l.words l.objects l.threads l.slots l.log l.out l.text l.t.have

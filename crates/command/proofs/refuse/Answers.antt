@@ -1,13 +1,10 @@
-use Rattle.std.proofs.Common.{rules, ◌≡◌, cond, ◌&&◌, not, ◌+◌, ◌≤◌, ◌<◌, eqb, length, get_or, IfOk, ℕ, ◌-◌, ◌*◌, ◌/◌, ◌%◌, Bool, true, false, nat_lt, List, [], ◌∷◌, ◌++◌, slice_set, bit_and, bit_or, Fits, w8, w32, w64, Bor, MutBor}
-use Rattle.rules.specs.Rules.{Sound}
-use Rattle.command.specs.Ready.{Roomy, Ready}
-use Rattle.command.specs.Counts.{IsPrefixLen}
+use Rattle.std.proofs.Common.{sym}
+use lib.Seq.{length-take-le}
+use Rattle.command.proofs.Laws.{refusal_bytes}
 use Rattle.command.proofs.refuse.Goals as goal
 
--- src/lib.rt:462:40
 pub slice_bounds-text-end : goal.slice_bounds-text-end
-slice_bounds-text-end c = ?
+slice_bounds-text-end c = refusal_bytes _ _ c.put_refusal-put.ensures c.put_refusal-put.auto.text
 
--- src/lib.rt:462:40
 pub slice_bounds-write_all-end : goal.slice_bounds-write_all-end
-slice_bounds-write_all-end c = ?
+slice_bounds-write_all-end c = sym (length-take-le _ _ (refusal_bytes _ _ c.put_refusal-put.ensures c.put_refusal-put.auto.text))

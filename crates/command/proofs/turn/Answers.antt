@@ -1,13 +1,9 @@
-use Rattle.std.proofs.Common.{rules, ◌≡◌, cond, ◌&&◌, not, ◌+◌, ◌≤◌, ◌<◌, eqb, length, get_or, IfOk, ℕ, ◌-◌, ◌*◌, ◌/◌, ◌%◌, Bool, true, false, nat_lt, List, [], ◌∷◌, ◌++◌, slice_set, bit_and, bit_or, Fits, w8, w32, w64, Bor, MutBor}
-use Rattle.rules.specs.Rules.{Sound}
-use Rattle.command.specs.Ready.{Roomy, Ready}
-use Rattle.command.specs.Counts.{IsPrefixLen}
+use Rattle.std.proofs.Common.{refl}
+use Rattle.command.proofs.Laws.{same_room, fed_bytes, fed_ready, status_known}
 use Rattle.command.proofs.turn.Goals as goal
 
--- src/lib.rt:391:17
 pub emit-requires : goal.emit-requires
-emit-requires c = ?
+emit-requires c = (fed_bytes c.feed-fed.ensures c.requires.sound (same_room c.read_more-got.auto.buf refl refl c.requires.room), status_known c.read_more-got.result.bytes c.status_of.ensures)
 
--- src/lib.rt:363:1
 pub returns : goal.returns
-returns c = ?
+returns c = (c.emit.ensures, fed_ready c.feed-fed.ensures c.requires.sound (same_room c.read_more-got.auto.buf refl refl c.requires.room) c.feed-fed.auto.log c.feed-fed.auto.out c.feed-fed.auto.text)
