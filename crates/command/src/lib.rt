@@ -447,7 +447,9 @@ fn in_words(with: Streams, objects: &mut [u64], threads: &mut [u32], slots: &mut
     let mut log = [0u8; FEW_LOG];
     let mut out = [0u32; FEW_ANSWERS];
     let mut text = [0u8; FEW_LINES];
-    every(with, objects, threads, slots, &mut log, &mut out, &mut text, true)
+    every(
+        with, objects, threads, slots, &mut log, &mut out, &mut text, true,
+    )
 }
 
 // ---- the image
@@ -533,7 +535,10 @@ pub fn wardlatch_replay<R: Env + Files>(rt: &R, with: Streams) -> u32
     let a = all_asked(rt);
     let what = a.what;
     match what {
-        NO_FILE => complain(with.errors, b"replay: an image file is needed; replay --help says more\n"),
+        NO_FILE => complain(
+            with.errors,
+            b"replay: an image file is needed; replay --help says more\n",
+        ),
         ONE_FILE => open_argument(rt, with, a.image, a.words),
         MORE_FILES => {
             complain(
@@ -541,8 +546,14 @@ pub fn wardlatch_replay<R: Env + Files>(rt: &R, with: Streams) -> u32
                 b"replay: one image file is needed, not two: the calls come from standard input; replay --help says more\n",
             )
         }
-        UNKNOWN => complain(with.errors, b"replay: no such option; replay --help says more\n"),
-        VERSION => print(with, b"replay 1, of wardlatch: images WLATCH01, calls of sixteen bytes\n"),
+        UNKNOWN => complain(
+            with.errors,
+            b"replay: no such option; replay --help says more\n",
+        ),
+        VERSION => print(
+            with,
+            b"replay 1, of wardlatch: images WLATCH01, calls of sixteen bytes\n",
+        ),
         _ => help(with),
     }
 }
