@@ -485,7 +485,9 @@ fn replay(with: Streams, file: &[u8], words: bool) -> u32
 const EILSEQ: i32 = 84;
 
 // The name as text, since std opens no other.
-fn name_of(path: &[u8]) -> io::Result<&str> {
+fn name_of(path: &[u8]) -> io::Result<&str>
+    ensures { IfOk result (λ name. name.now ≡ path.now) }
+{
     match str::from_utf8(path) {
         Ok(name) => Ok(name),
         Err(_) => Err(io::Error::from_raw_os_error(EILSEQ)),
