@@ -40,11 +40,11 @@ longest_some true = omega arith
 longest_some false = omega arith
 
 module _ (words : Bool) (log text : List ℕ) {r : Bool} {each : ℕ} (e : r ≡ leb (each * parts_in (length log)) (length text)) (l : each ≡ longest words) where
-  pub has_no_room : not r ≡ true → length text < longest words * parts_in (length log)
-  has_no_room n = leb-false _ _ (rw l at (sym e ∙ not-true r n))
+  pub has_no_room : r ≡ false → length text < longest words * parts_in (length log)
+  has_no_room n = leb-false _ _ (rw l at (sym e ∙ n))
 
-  pub has_its_room : not r ≡ false → longest words * parts_in (length log) ≤ length text
-  has_its_room n = leb-true _ _ (rw l at (sym e ∙ not-false r n))
+  pub has_its_room : r ≡ true → longest words * parts_in (length log) ≤ length text
+  has_its_room n = leb-true _ _ (rw l at (sym e ∙ n))
 
 -- ---- lines of either kind
 

@@ -110,8 +110,8 @@ below_zero n h g =
 
 -- ---- room, as `has_room` says it
 
-pub granted : {r : Bool} (m n : ℕ) → r ≡ leb m n → not r ≡ false → m ≤ n
-granted {r} m n e t = leb-true m n (sym e ∙ not-false r t)
+pub granted : {r : Bool} (m n : ℕ) → r ≡ leb m n → r ≡ true → m ≤ n
+granted {r} m n e t = leb-true m n (sym e ∙ t)
 
-pub refused : {r : Bool} (m n : ℕ) → r ≡ leb m n → not r ≡ true → n < m
-refused {r} m n e t = leb-false m n (sym e ∙ not-true r t)
+pub refused : {r : Bool} (m n : ℕ) → r ≡ leb m n → r ≡ false → n < m
+refused {r} m n e t = leb-false m n (sym e ∙ t)

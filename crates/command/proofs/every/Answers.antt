@@ -14,22 +14,22 @@ pub turn-t-requires : goal.turn-t-requires
 turn-t-requires c = c.loop-turns.invariant.1
 
 pub shape_of-objects-then-t-lt-ON : goal.shape_of-objects-then-t-lt-ON
-shape_of-objects-then-t-lt-ON c = c.turn-t.auto.0 ∙ c.loop-turns.invariant.0.objects
+shape_of-objects-then-t-lt-ON c = c.turn-t.auto.objects ∙ c.loop-turns.invariant.0.objects
 
 pub shape_of-threads-then-t-lt-ON : goal.shape_of-threads-then-t-lt-ON
-shape_of-threads-then-t-lt-ON c = c.turn-t.auto.1.0 ∙ c.loop-turns.invariant.0.threads
+shape_of-threads-then-t-lt-ON c = c.turn-t.auto.threads ∙ c.loop-turns.invariant.0.threads
 
 pub shape_of-slots-then-t-lt-ON : goal.shape_of-slots-then-t-lt-ON
-shape_of-slots-then-t-lt-ON c = c.turn-t.auto.1.1.0 ∙ c.loop-turns.invariant.0.slots
+shape_of-slots-then-t-lt-ON c = c.turn-t.auto.slots ∙ c.loop-turns.invariant.0.slots
 
 pub shape_of-log-then-t-lt-ON : goal.shape_of-log-then-t-lt-ON
-shape_of-log-then-t-lt-ON c = c.turn-t.auto.1.1.1.0 ∙ c.loop-turns.invariant.0.bytes
+shape_of-log-then-t-lt-ON c = c.turn-t.auto.log ∙ c.loop-turns.invariant.0.bytes
 
 pub shape_of-out-then-t-lt-ON : goal.shape_of-out-then-t-lt-ON
-shape_of-out-then-t-lt-ON c = c.turn-t.auto.1.1.1.1.0 ∙ c.loop-turns.invariant.0.numbers
+shape_of-out-then-t-lt-ON c = c.turn-t.auto.out ∙ c.loop-turns.invariant.0.numbers
 
 pub shape_of-text-then-t-lt-ON : goal.shape_of-text-then-t-lt-ON
-shape_of-text-then-t-lt-ON c = c.turn-t.auto.1.1.1.1.1.0 ∙ c.loop-turns.invariant.0.lines
+shape_of-text-then-t-lt-ON c = c.turn-t.auto.text ∙ c.loop-turns.invariant.0.lines
 
 pub returns-then-t-lt-ON : goal.returns-then-t-lt-ON
 returns-then-t-lt-ON c = c.if-t-lt-ON.true
@@ -41,7 +41,7 @@ pub loop-turns-smaller : goal.loop-turns-smaller
 loop-turns-smaller c = omega arith
 
 pub loop-turns-preserved : goal.loop-turns-preserved
-loop-turns-preserved c = (kept_more c.loop-turns.invariant.0 (record { objects = c.turn-t.auto.0; threads = c.turn-t.auto.1.0; slots = c.turn-t.auto.1.1.0; bytes = c.turn-t.auto.1.1.1.0; numbers = c.turn-t.auto.1.1.1.1.0; lines = c.turn-t.auto.1.1.1.1.1.0 }), c.turn-t.ensures.1)
+loop-turns-preserved c = (kept_more c.loop-turns.invariant.0 (record { objects = c.turn-t.auto.objects; threads = c.turn-t.auto.threads; slots = c.turn-t.auto.slots; bytes = c.turn-t.auto.log; numbers = c.turn-t.auto.out; lines = c.turn-t.auto.text }), c.turn-t.ensures.1)
 
 pub shape_of-objects : goal.shape_of-objects
 shape_of-objects c = c.loop-turns.invariant.0.objects

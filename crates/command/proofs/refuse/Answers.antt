@@ -14,7 +14,7 @@ use Rattle.replaying.proofs.put_refusal.Reads as put-refusal-reads
 use Rattle.command.proofs.refuse.Goals as goal
 
 pub slice_bounds-text-end : goal.slice_bounds-text-end
-slice_bounds-text-end c = refusal_bytes _ _ c.put_refusal-put.ensures c.put_refusal-put.auto.1.1.0
+slice_bounds-text-end c = refusal_bytes _ _ c.put_refusal-put.ensures c.put_refusal-put.auto.text
 
 pub slice_bounds-write_all-end : goal.slice_bounds-write_all-end
-slice_bounds-write_all-end c = sym (length-take-le _ _ (refusal_bytes _ _ c.put_refusal-put.ensures c.put_refusal-put.auto.1.1.0))
+slice_bounds-write_all-end c = sym (length-take-le _ _ (refusal_bytes _ _ c.put_refusal-put.ensures c.put_refusal-put.auto.text))

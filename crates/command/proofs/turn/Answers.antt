@@ -11,10 +11,10 @@ use Rattle.replaying.proofs.feed.Reads as feed-reads
 use Rattle.command.proofs.turn.Goals as goal
 
 pub returns-then-got : goal.returns-then-got
-returns-then-got c = (search rules, record { sound = c.requires.sound; room = same_room c.read_more-got.auto.1.0 refl refl c.requires.room; less = c.requires.less })
+returns-then-got c = (search rules, record { sound = c.requires.sound; room = same_room c.read_more-got.auto.buf refl refl c.requires.room; less = c.requires.less })
 
 pub emit-requires : goal.emit-requires
-emit-requires c = (fed_bytes c.feed-fed.ensures c.requires.sound (same_room c.read_more-got.auto.1.0 refl refl c.requires.room), status_known c.read_more-got.result.bytes c.status_of.ensures)
+emit-requires c = (fed_bytes c.feed-fed.ensures c.requires.sound (same_room c.read_more-got.auto.buf refl refl c.requires.room), status_known c.read_more-got.result.bytes c.status_of.ensures)
 
 pub returns : goal.returns
-returns c = (c.emit.ensures, fed_ready c.feed-fed.ensures c.requires.sound (same_room c.read_more-got.auto.1.0 refl refl c.requires.room) c.feed-fed.auto.1.1.1.1.0 c.feed-fed.auto.1.1.1.1.1.1.1.1.0 c.feed-fed.auto.1.1.1.1.1.1.1.1.1.0)
+returns c = (c.emit.ensures, fed_ready c.feed-fed.ensures c.requires.sound (same_room c.read_more-got.auto.buf refl refl c.requires.room) c.feed-fed.auto.log c.feed-fed.auto.out c.feed-fed.auto.text)

@@ -8,7 +8,7 @@ use Rattle.tables.proofs.load_domain.Reads as load-domain-reads
 use Rattle.firmware.proofs.wardlatch_domain_add.Goals as goal
 
 pub shape_of-domain : goal.shape_of-domain
-shape_of-domain c = c.settle.auto.0
+shape_of-domain c = c.settle.auto.domain
 
 pub returns : goal.returns
 returns c = changed (λ (m : MemDomain). added m (record { start = c.args.start; size = c.args.size; attr = c.args.attr })) _ _ _ _ _ c.load_domain.ensures c.add_partition-changed.ensures c.settle.ensures

@@ -8,7 +8,7 @@ use Rattle.tables.proofs.load_domain.Reads as load-domain-reads
 use Rattle.firmware.proofs.wardlatch_domain_remove.Goals as goal
 
 pub shape_of-domain : goal.shape_of-domain
-shape_of-domain c = c.settle.auto.0
+shape_of-domain c = c.settle.auto.domain
 
 pub returns : goal.returns
 returns c = changed (λ (m : MemDomain). removed m c.args.start c.args.size) _ _ _ _ _ c.load_domain.ensures c.remove_partition-changed.ensures c.settle.ensures

@@ -8,7 +8,7 @@ pub returns-then-domain-ne-NUMBERS : goal.returns-then-domain-ne-NUMBERS
 returns-then-domain-ne-NUMBERS c = plan_other _ c.if-domain-ne-NUMBERS.true _ _
 
 pub shape_of-out : goal.shape_of-out
-shape_of-out c = c.plan-made.auto.1.1.0
+shape_of-out c = c.plan-made.auto.out
 
 pub returns : goal.returns
 returns c = plan_whole _ c.if-domain-ne-NUMBERS.false _ _ _ _ _ c.load_domain.ensures c.plan-made.ensures

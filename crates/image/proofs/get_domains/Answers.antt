@@ -66,7 +66,7 @@ loop-d-smaller c = omega arith
 pub loop-d-preserved : goal.loop-d-preserved
 loop-d-preserved c = let l = c.loop-d in
     let a = c.args in
-    let ys = c.get_domain.new.1.0 in
+    let ys = c.get_domain.new.slots in
     let e = domains_turn a.image.now a.at l.d a.slots.now l.slots ys (omega arith) l.invariant.1.1 c.get_domain.ensures in
     (omega arith, (ap length e ∙ simp length-sets c.requires.1, e))
 

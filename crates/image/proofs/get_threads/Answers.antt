@@ -30,7 +30,7 @@ loop-i-preserved c = let l = c.loop-i in
     let a = c.args in (
       omega arith,
       (
-        c.get_thread.auto.1.1.0 ∙ l.invariant.1.0,
+        c.get_thread.auto.threads ∙ l.invariant.1.0,
         c.get_thread.ensures
             ∙ ap (enter a.image.now (a.at + 8 * l.i)) l.invariant.1.1
             ∙ sym (enter_turn a.image.now a.at a.threads.now l.i),

@@ -8,10 +8,10 @@ pub returns-then-w-ne-OK : goal.returns-then-w-ne-OK
 returns-then-w-ne-OK c = no_image _ _ c.write-w.ensures long_enough c.if-w-ne-OK.true
 
 pub slice_bounds-out-end : goal.slice_bounds-out-end
-slice_bounds-out-end c = fits_room c.write-w.ensures c.if-w-ne-OK.false c.write-w.auto.1.1.1.0
+slice_bounds-out-end c = fits_room c.write-w.ensures c.if-w-ne-OK.false c.write-w.auto.out
 
 pub slice_bounds-again-end : goal.slice_bounds-again-end
-slice_bounds-again-end c = sym (length-take-le _ _ (fits_room c.write-w.ensures c.if-w-ne-OK.false c.write-w.auto.1.1.1.0))
+slice_bounds-again-end c = sym (length-take-le _ _ (fits_room c.write-w.ensures c.if-w-ne-OK.false c.write-w.auto.out))
 
 pub slice_bounds-there-end : goal.slice_bounds-there-end
 slice_bounds-there-end c = sym (length-take-le _ _ c.requires)

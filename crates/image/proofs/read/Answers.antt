@@ -20,13 +20,13 @@ pub is_image-fine-requires : goal.is_image-fine-requires
 is_image-fine-requires c = omega (arith, c.decode-end.ensures.place, (head_is c.args.image.now (via c.head_code-code.ensures c.if-code-ne-OK.false)).whole)
 
 pub copy64-requires : goal.copy64-requires
-copy64-requires c = c.decode-end.auto.1.0 ∙ sym (sizes _ _ _ (via c.is_sized.ensures c.if-not-is_sized.false)).0
+copy64-requires c = c.decode-end.auto.objects ∙ sym (sizes _ _ _ (via c.is_sized.ensures c.if-not-is_sized.false)).0
 
 pub copy32-requires : goal.copy32-requires
-copy32-requires c = c.decode-end.auto.1.1.0 ∙ sym (sizes _ _ _ (via c.is_sized.ensures c.if-not-is_sized.false)).1
+copy32-requires c = c.decode-end.auto.threads ∙ sym (sizes _ _ _ (via c.is_sized.ensures c.if-not-is_sized.false)).1
 
 pub copy32-requires-2 : goal.copy32-requires-2
-copy32-requires-2 c = c.decode-end.auto.1.1.1.0 ∙ sym (sizes _ _ _ (via c.is_sized.ensures c.if-not-is_sized.false)).2
+copy32-requires-2 c = c.decode-end.auto.slots ∙ sym (sizes _ _ _ (via c.is_sized.ensures c.if-not-is_sized.false)).2
 
 pub returns-then-not-fine : goal.returns-then-not-fine
 returns-then-not-fine c = let d = c.decode-end.ensures in wrong_contents _ _ _ _ (via c.is_sized.ensures c.if-not-is_sized.false) (via c.head_code-code.ensures c.if-code-ne-OK.false) (rw (← d.place, ← d.objects, ← d.threads, ← d.slots) c.is_image-fine.ensures) _ _ _ c.copy64.ensures c.copy32.ensures c.copy32-2.ensures c.if-not-fine.true

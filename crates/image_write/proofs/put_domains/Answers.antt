@@ -65,7 +65,7 @@ loop-d-smaller c = omega arith
 pub loop-d-preserved : goal.loop-d-preserved
 loop-d-preserved c = let l = c.loop-d in
     let a = c.args in
-    let e = domains_put a.slots.now a.at l.d a.out.now l.out c.put_domain.new.0 (omega arith) l.invariant.1.1 c.put_domain.ensures in
+    let e = domains_put a.slots.now a.at l.d a.out.now l.out c.put_domain.new.rec (omega arith) l.invariant.1.1 c.put_domain.ensures in
     (omega arith, (ap length e ∙ simp length-sets, e))
 
 pub shape_of-out : goal.shape_of-out

@@ -43,7 +43,7 @@ pub loop-k-smaller : goal.loop-k-smaller
 loop-k-smaller c = omega arith
 
 pub loop-k-preserved : goal.loop-k-preserved
-loop-k-preserved c = (omega arith, (c.put_line-at.auto.0 ∙ c.loop-k.invariant.1.0, one_more (line_at c.args.out.now) 22 c.loop-k.invariant.1.1 c.put_line-at.ensures))
+loop-k-preserved c = (omega arith, (c.put_line-at.auto.text ∙ c.loop-k.invariant.1.0, one_more (line_at c.args.out.now) 22 c.loop-k.invariant.1.1 c.put_line-at.ensures))
 
 pub shape_of-text : goal.shape_of-text
 shape_of-text c = c.loop-k.invariant.1.0

@@ -19,7 +19,7 @@ pub overflow_add-p : goal.overflow_add-p
 overflow_add-p c = omega (arith, number_most _ _ _ _ _ c.put_number.ensures)
 
 pub bounds-text-p : goal.bounds-text-p
-bounds-text-p c = omega (arith, number_most _ _ _ _ _ c.put_number.ensures, c.put_number.auto.0)
+bounds-text-p c = omega (arith, number_most _ _ _ _ _ c.put_number.ensures, c.put_number.auto.text)
 
 pub overflow_add-q : goal.overflow_add-q
 overflow_add-q c = omega (arith, number_most _ _ _ _ _ c.put_number.ensures)
@@ -31,13 +31,13 @@ pub overflow_add-q-2 : goal.overflow_add-q-2
 overflow_add-q-2 c = omega (arith, number_most _ _ _ _ _ c.put_number.ensures, number_most _ _ _ _ _ c.put_number-2.ensures)
 
 pub bounds-text-q : goal.bounds-text-q
-bounds-text-q c = omega (arith, number_most _ _ _ _ _ c.put_number.ensures, number_most _ _ _ _ _ c.put_number-2.ensures, kept_twice c.args.text.now c.put_number.new.0 c.put_number-2.new.0 (c.args.at + c.put_number.result) 32 c.put_number.auto.0 c.put_number-2.auto.0)
+bounds-text-q c = omega (arith, number_most _ _ _ _ _ c.put_number.ensures, number_most _ _ _ _ _ c.put_number-2.ensures, kept_twice c.args.text.now c.put_number.new.text c.put_number-2.new.text (c.args.at + c.put_number.result) 32 c.put_number.auto.text c.put_number-2.auto.text)
 
 pub overflow_add-result : goal.overflow_add-result
 overflow_add-result c = omega (arith, number_most _ _ _ _ _ c.put_number.ensures, number_most _ _ _ _ _ c.put_number-2.ensures)
 
 pub shape_of-text : goal.shape_of-text
-shape_of-text c = simp length-set (kept_twice c.args.text.now c.put_number.new.0 c.put_number-2.new.0 (c.args.at + c.put_number.result) 32 c.put_number.auto.0 c.put_number-2.auto.0)
+shape_of-text c = simp length-set (kept_twice c.args.text.now c.put_number.new.text c.put_number-2.new.text (c.args.at + c.put_number.result) 32 c.put_number.auto.text c.put_number-2.auto.text)
 
 pub returns : goal.returns
-returns c = line_put _ _ _ _ _ _ _ _ c.requires (number_most _ _ _ _ _ c.put_number.ensures) c.put_number.auto.0 c.put_number.ensures c.put_number-2.ensures
+returns c = line_put _ _ _ _ _ _ _ _ c.requires (number_most _ _ _ _ _ c.put_number.ensures) c.put_number.auto.text c.put_number.ensures c.put_number-2.ensures

@@ -13,7 +13,7 @@ pub returns-then-text-lt-REFUSAL : goal.returns-then-text-lt-REFUSAL
 returns-then-text-lt-REFUSAL c = small (λ _. refusal_of c.args.words c.args.code) 30 (c.args.code ∷ 0 ∷ []) 1 _ (omega arith) (omega arith)
 
 pub returns-then-words : goal.returns-then-words
-returns-then-words c = refusal_as _ c.if-words.true (refusal_words _ (omega arith) c.put_word-p.auto.0 c.put_word-p.ensures c.put_answer-bytes.ensures)
+returns-then-words c = refusal_as _ c.if-words.true (refusal_words _ (omega arith) c.put_word-p.auto.text c.put_word-p.ensures c.put_answer-bytes.ensures)
 
 pub returns : goal.returns
 returns c = refusal_as _ c.if-words.false (refusal_line _ (omega arith) c.put_lines.ensures)

@@ -16,6 +16,7 @@ use Rattle.tables.proofs.load_thread.Reads as load-thread-reads
 use Rattle.rules.proofs.thread_ok.Reads as thread-ok-reads
 use Rattle.rules.proofs.with_served.Reads as with-served-reads
 use Rattle.rules.proofs.judge_threads.Goals as goal
+use Rattle.rules.proofs.judge_threads.Goals.{then-r-ne0+else-is_served, else-r-ne0}
 
 pub loop-t-init : goal.loop-t-init
 loop-t-init c = pass_none _ _
@@ -33,7 +34,12 @@ pub with_served-next-requires : goal.with_served-next-requires
 with_served-next-requires c = live_handle _ _ (via c.thread_ok.ensures c.if-not-thread_ok.false) c.if-r-ne0.true
 
 pub loop-t-preserved : goal.loop-t-preserved
-loop-t-preserved c = let k = via c.thread_ok.ensures c.if-not-thread_ok.false in elim c.if-r-ne0.branch [ inl w ↦ turn_live _ _ c.loop-t.invariant c.loop-t-test.true c.load_thread-r.ensures k w.0.taken (via w.1.ensures w.2.left) (w.4 ∙ code_set _ _ c.loop-t-test.true) (w.5 ∙ w.3.ensures) | inr w ↦ turn_dead _ _ c.loop-t.invariant c.loop-t-test.true c.load_thread-r.ensures k w.0.left w.1 w.2 ]
+loop-t-preserved c =
+    let k = via c.thread_ok.ensures c.if-not-thread_ok.false in
+    elim c.if-r-ne0.branch [
+      then-r-ne0+else-is_served w ↦ turn_live _ _ c.loop-t.invariant c.loop-t-test.true c.load_thread-r.ensures k w.if-r-ne0.true (via w.is_served.ensures w.if-is_served.false) (w.live-is ∙ code_set _ _ c.loop-t-test.true) (w.served-is ∙ w.with_served-next.ensures)
+    | else-r-ne0 w ↦ turn_dead _ _ c.loop-t.invariant c.loop-t-test.true c.load_thread-r.ensures k w.if-r-ne0.false w.live-is w.served-is
+    ]
 
 pub returns : goal.returns
 returns c = pass_all _ _ _ _ _ c.loop-t.invariant c.loop-t-test.false

@@ -23,12 +23,12 @@ returns-then-slots-ne-SLOT_NUMBERS c = rw (eq-eqb _ _ c.if-objects-ne-OBJECT_NUM
 
 pub returns-then-not-j : goal.returns-then-not-j
 unfolding keeps_test
-returns-then-not-j c = rw (eq-eqb _ _ c.if-objects-ne-OBJECT_NUMBERS.false, eq-eqb _ _ c.if-threads-ne-THREAD_NUMBERS.false, eq-eqb _ _ c.if-slots-ne-SLOT_NUMBERS.false, judged_ok c.args.objects.now c.args.threads.now c.judge_threads-j.result c.judge_threads-j.ensures ∙ c.if-not-j.true)
+returns-then-not-j c = rw (eq-eqb _ _ c.if-objects-ne-OBJECT_NUMBERS.false, eq-eqb _ _ c.if-threads-ne-THREAD_NUMBERS.false, eq-eqb _ _ c.if-slots-ne-SLOT_NUMBERS.false, judged_ok c.args.objects.now c.args.threads.now c.judge_threads-j.result c.judge_threads-j.ensures ∙ not-true _ c.if-not-j.true)
 
 pub returns-then-not-objects_ok : goal.returns-then-not-objects_ok
 unfolding keeps_test
-returns-then-not-objects_ok c = rw (eq-eqb _ _ c.if-objects-ne-OBJECT_NUMBERS.false, eq-eqb _ _ c.if-threads-ne-THREAD_NUMBERS.false, eq-eqb _ _ c.if-slots-ne-SLOT_NUMBERS.false, judged_ok c.args.objects.now c.args.threads.now c.judge_threads-j.result c.judge_threads-j.ensures ∙ c.if-not-j.false, ← judged_live c.args.objects.now c.args.threads.now c.judge_threads-j.result c.judge_threads-j.ensures c.if-not-j.false, via c.objects_ok.ensures c.if-not-objects_ok.true)
+returns-then-not-objects_ok c = rw (eq-eqb _ _ c.if-objects-ne-OBJECT_NUMBERS.false, eq-eqb _ _ c.if-threads-ne-THREAD_NUMBERS.false, eq-eqb _ _ c.if-slots-ne-SLOT_NUMBERS.false, judged_ok c.args.objects.now c.args.threads.now c.judge_threads-j.result c.judge_threads-j.ensures ∙ not-false _ c.if-not-j.false, ← judged_live c.args.objects.now c.args.threads.now c.judge_threads-j.result c.judge_threads-j.ensures (not-false _ c.if-not-j.false), via c.objects_ok.ensures c.if-not-objects_ok.true)
 
 pub returns : goal.returns
 unfolding keeps_test
-returns c = rw (eq-eqb _ _ c.if-objects-ne-OBJECT_NUMBERS.false, eq-eqb _ _ c.if-threads-ne-THREAD_NUMBERS.false, eq-eqb _ _ c.if-slots-ne-SLOT_NUMBERS.false, judged_ok c.args.objects.now c.args.threads.now c.judge_threads-j.result c.judge_threads-j.ensures ∙ c.if-not-j.false, ← judged_live c.args.objects.now c.args.threads.now c.judge_threads-j.result c.judge_threads-j.ensures c.if-not-j.false, via c.objects_ok.ensures c.if-not-objects_ok.false) c.domains_ok.ensures
+returns c = rw (eq-eqb _ _ c.if-objects-ne-OBJECT_NUMBERS.false, eq-eqb _ _ c.if-threads-ne-THREAD_NUMBERS.false, eq-eqb _ _ c.if-slots-ne-SLOT_NUMBERS.false, judged_ok c.args.objects.now c.args.threads.now c.judge_threads-j.result c.judge_threads-j.ensures ∙ not-false _ c.if-not-j.false, ← judged_live c.args.objects.now c.args.threads.now c.judge_threads-j.result c.judge_threads-j.ensures (not-false _ c.if-not-j.false), via c.objects_ok.ensures c.if-not-objects_ok.false) c.domains_ok.ensures

@@ -12,7 +12,7 @@ pub loop-k-init : goal.loop-k-init
 loop-k-init c = (search rules, put_none _ _ _, refl)
 
 pub loop-k-preserved : goal.loop-k-preserved
-loop-k-preserved c = (search rules, c.store_partition.ensures ∙ rw c.loop-k.invariant.1 (put_more _ _ _ _), c.store_partition.auto.0 ∙ c.loop-k.invariant.2)
+loop-k-preserved c = (search rules, c.store_partition.ensures ∙ rw c.loop-k.invariant.1 (put_more _ _ _ _), c.store_partition.auto.slots ∙ c.loop-k.invariant.2)
 
 pub shape_of-slots : goal.shape_of-slots
 shape_of-slots c = c.loop-k.invariant.2

@@ -13,7 +13,7 @@ pub put_nth-requires : goal.put_nth-requires
 put_nth-requires c = omega (arith, mode_name_most c.wrapping_add_u32-k.result, c.put_word-p.ensures.next)
 
 pub returns-then-k-lt3 : goal.returns-then-k-lt3
-returns-then-k-lt3 c = known_as (mode_named _ c.wrapping_add_u32-k.ensures c.if-k-lt3.true) (loosely widest_field (omega (arith, mode_name_most c.wrapping_add_u32-k.result)) (c.put_word-p.ensures then c.put_nth.ensures))
+returns-then-k-lt3 c = known_as (mode_named _ c.wrapping_add_u32-k.ensures.value c.if-k-lt3.true) (loosely widest_field (omega (arith, mode_name_most c.wrapping_add_u32-k.result)) (c.put_word-p.ensures then c.put_nth.ensures))
 
 pub returns : goal.returns
-returns c = known_as (mode_numbered _ c.wrapping_add_u32-k.ensures c.if-k-lt3.false) c.put_mode_number.ensures
+returns c = known_as (mode_numbered _ c.wrapping_add_u32-k.ensures.value c.if-k-lt3.false) c.put_mode_number.ensures
