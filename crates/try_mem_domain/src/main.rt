@@ -40,12 +40,7 @@ fn read_full(from: &mut impl Read, into: &mut [u8]) -> io::Result<usize>
 }
 
 // One case. Steps 1 and 2 write into the record itself, so that any record can be tried, unsound ones too.
-fn step(
-    rt: &impl Print,
-    d: MemDomain,
-    cases: &[u8; 65536],
-    at: usize,
-) -> io::Result<MemDomain> {
+fn step(rt: &impl Print, d: MemDomain, cases: &[u8; 65536], at: usize) -> io::Result<MemDomain> {
     if at > 65516 {
         return Ok(d);
     }

@@ -118,10 +118,7 @@ fn judge(
     if x <= objects.len() {
         if y <= threads.len() {
             if z <= slots.len() {
-                truth(
-                    rt,
-                    rules::keeps(&objects[..x], &threads[..y], &slots[..z]),
-                )?;
+                truth(rt, rules::keeps(&objects[..x], &threads[..y], &slots[..z]))?;
             }
         }
     }
@@ -229,7 +226,11 @@ fn round(objects: &mut [u64], threads: &[u32], slots: &[u32], b: u32, c: u32, go
 }
 
 fn truth(rt: &impl Print, b: bool) -> io::Result<()> {
-    if b { word(rt, "yes\n") } else { word(rt, "no\n") }
+    if b {
+        word(rt, "yes\n")
+    } else {
+        word(rt, "no\n")
+    }
 }
 
 fn figure(rt: &impl Print, n: u64) -> io::Result<()> {
