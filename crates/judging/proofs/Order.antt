@@ -26,11 +26,11 @@ use Rattle.decoding.specs.Calls.{Op, op_of}
 use Rattle.judging.specs.Judge.{◌⇒◌⨾◌, live, supervisor, well_formed, Use, no_handle, taken, use_of, with_handle, rule, is_unknown, is_privileged, judge_op, judge, taken_in}
 
 -- a callee's answer by its contract, and the branch that says what it is not
-pub via_no : {x y : Bool} → x ≡ y → not x ≡ true → y ≡ false
-via_no {x} p q = sym p ∙ not-true x q
+pub via_no : {x y : Bool} → x ≡ y → x ≡ false → y ≡ false
+via_no p q = sym p ∙ q
 
-pub via_yes : {x y : Bool} → x ≡ y → not x ≡ false → y ≡ true
-via_yes {x} p q = sym p ∙ not-false x q
+pub via_yes : {x y : Bool} → x ≡ y → x ≡ true → y ≡ true
+via_yes p q = sym p ∙ q
 
 -- a test that holds stops the order, one that does not passes it on
 pub stop : {b : Bool} (n : Code) (rest : Answer) → b ≡ true → (b ⇒ n ⨾ rest) ≡ refused n

@@ -5,6 +5,7 @@ use Prim.Native.Nat.{ℕ, ◌+◌, ◌-◌, ◌≤◌}
 use native.Mathlib.Omega.{arith}
 use mathlib.Core.Logic.{⊎_elim}
 use Rattle.image_write.proofs.count_threads.Goals as goal
+use Rattle.image_write.proofs.count_threads.Goals.{then-threads-t-ne0, else-threads-t-ne0}
 
 pub loop-t-init : goal.loop-t-init
 unfolding live
@@ -31,10 +32,10 @@ loop-t-smaller c = omega arith
 pub loop-t-preserved : goal.loop-t-preserved
 loop-t-preserved c = let l = c.loop-t in
     let ts = c.args.threads.now in
-    ⊎_elim
-    (λ w. (omega arith, (omega arith, w.1 ∙ ap (λ (k : ℕ). k + 1) l.invariant.1.1 ∙ sym (live_more ts l.t w.0.taken))))
-    (λ w. (omega arith, (omega arith, w.1 ∙ l.invariant.1.1 ∙ sym (live_same ts l.t w.0.left))))
-    c.if-threads-t-ne0.branch
+    elim c.if-threads-t-ne0.branch [
+      then-threads-t-ne0 w ↦ (omega arith, (omega arith, w.n-is ∙ ap (λ (k : ℕ). k + 1) l.invariant.1.1 ∙ sym (live_more ts l.t w.if-threads-t-ne0.true)))
+    | else-threads-t-ne0 w ↦ (omega arith, (omega arith, w.n-is ∙ l.invariant.1.1 ∙ sym (live_same ts l.t w.if-threads-t-ne0.false)))
+    ]
 
 pub returns : goal.returns
 returns c = let l = c.loop-t in

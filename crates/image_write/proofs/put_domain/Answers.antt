@@ -44,7 +44,7 @@ loop-k-preserved c = let l = c.loop-k in
     let e : 0 + 4 * l.k ≡ 4 * l.k = omega arith in (
       omega arith,
       (
-        p.auto.0 ∙ l.invariant.1.0,
+        p.auto.out ∙ l.invariant.1.0,
         p.ensures
             ∙ ap (λ (v : ℕ). sets l.rec (4 * l.k) (bytes 4 v)) c.wide32-v.ensures
             ∙ ap (λ (xs : List ℕ). sets xs (4 * l.k) (slot_bytes a.slots.now l.k)) l.invariant.1.1

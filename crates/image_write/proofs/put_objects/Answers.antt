@@ -61,8 +61,8 @@ loop-h-preserved c = let l = c.loop-h in
     let q = c.put-in-loop-h in (
       omega arith,
       (
-        q.auto.0 ∙ p.auto.0 ∙ l.invariant.1.0,
-        object_put a.objects.now a.out.now l.out p.new.0 q.new.0 a.at l.h l.invariant.1.1 p.ensures q.ensures,
+        q.auto.out ∙ p.auto.out ∙ l.invariant.1.0,
+        object_put a.objects.now a.out.now l.out p.new.out q.new.out a.at l.h l.invariant.1.1 p.ensures q.ensures,
       ),
     )
 

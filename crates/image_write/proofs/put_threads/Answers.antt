@@ -31,7 +31,7 @@ loop-t-preserved c = let l = c.loop-t in
     let p = c.put_thread-to in (
       omega arith,
       (
-        p.auto.0 ∙ l.invariant.1.0,
+        p.auto.out ∙ l.invariant.1.0,
         (
           p.ensures.1 ∙ rw (cat_more f l.t, length-append) (omega arith),
           rw (cat_more f l.t) (behind (cat f l.t) (f l.t) a.out.now a.at l.to l.invariant.1.1.1 p.ensures.0 (sym l.invariant.1.1.0)),

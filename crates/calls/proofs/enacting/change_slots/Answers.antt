@@ -11,4 +11,4 @@ pub returns-in-28 : goal.returns-in-28
 returns-in-28 c = c.change_domain-in-28.ensures ∙ domain_remove _ _ c.in-28.is
 
 pub returns-in_default : goal.returns-in_default
-returns-in_default c = domain_none _ _ (no_domain _ _ c.in_default.rest.0.1 c.in_default.rest.1)
+returns-in_default c = domain_none _ _ (no_domain _ _ c.in_default.in_default-own.rest.0.1 c.in_default.in_default-own.rest.1)

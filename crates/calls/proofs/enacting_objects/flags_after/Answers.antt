@@ -17,4 +17,4 @@ returns-in-22 c = rw c.in-22.is c.make_public.ensures
 
 pub returns-in_default : goal.returns-in_default
 unfolding flags_after
-returns-in_default c = rw (ne_eqb _ 19 c.in_default.rest.0.0.1, ne_eqb _ 20 c.in_default.rest.0.1, ne_eqb _ 22 c.in_default.rest.1)
+returns-in_default c = rw (ne_eqb _ 19 c.in_default.in_default-own.rest.0.0.1, ne_eqb _ 20 c.in_default.in_default-own.rest.0.1, ne_eqb _ 22 c.in_default.in_default-own.rest.1)

@@ -39,4 +39,4 @@ returns-in-25 c = rw c.in-25.is c.with_heritage.ensures
 
 pub returns-in_default : goal.returns-in_default
 unfolding object_after
-returns-in_default c = sym (ap (λ ch. rewritten ch c.args.o) (no_object_lem c.args.c.op c.args.c c.requires (λ e. c.in_default.rest.0.0.0.0.0.0.0.0.1 (inl e)) (λ e. c.in_default.rest.0.0.0.0.0.0.0.1 (inl e)) c.in_default.rest.0.0.0.0.0.0.1 c.in_default.rest.0.0.0.0.0.1 (λ e. c.in_default.rest.0.0.0.0.0.0.0.0.1 (inr e)) c.in_default.rest.0.0.0.0.1 c.in_default.rest.0.0.0.1 c.in_default.rest.0.0.1 c.in_default.rest.0.1 (λ e. c.in_default.rest.0.0.0.0.0.0.0.1 (inr e)) c.in_default.rest.1))
+returns-in_default c = sym (ap (λ ch. rewritten ch c.args.o) (no_object_lem c.args.c.op c.args.c c.requires (λ e. c.in_default.in_default-own.rest.0.0.0.0.0.0.0.0.1 (inl e)) (λ e. c.in_default.in_default-own.rest.0.0.0.0.0.0.0.1 (inl e)) c.in_default.in_default-own.rest.0.0.0.0.0.0.1 c.in_default.in_default-own.rest.0.0.0.0.0.1 (λ e. c.in_default.in_default-own.rest.0.0.0.0.0.0.0.0.1 (inr e)) c.in_default.in_default-own.rest.0.0.0.0.1 c.in_default.in_default-own.rest.0.0.0.1 c.in_default.in_default-own.rest.0.0.1 c.in_default.in_default-own.rest.0.1 (λ e. c.in_default.in_default-own.rest.0.0.0.0.0.0.0.1 (inr e)) c.in_default.in_default-own.rest.1))

@@ -13,4 +13,4 @@ returns-in-17 c = rw c.in-17.is
 
 pub returns-in_default : goal.returns-in_default
 unfolding whole_after
-returns-in_default c = rw (ne_eqb _ 16 c.in_default.rest.0.1, ne_eqb _ 17 c.in_default.rest.1)
+returns-in_default c = rw (ne_eqb _ 16 c.in_default.in_default-own.rest.0.1, ne_eqb _ 17 c.in_default.in_default-own.rest.1)
