@@ -42,7 +42,7 @@ pub loop-k-smaller : goal.loop-k-smaller
 loop-k-smaller c = omega arith
 
 pub loop-k-preserved : goal.loop-k-preserved
-loop-k-preserved c = (omega arith, (c.put_part_at-at.auto.text ∙ c.loop-k.invariant.1.0, (one_more (explained_at c.args.first c.args.log.now c.args.out.now) longest_line c.loop-k.invariant.1.1.0 (rw c.loop-k.invariant.1.1.1 at c.put_part_at-at.ensures), next_number _ _ c.loop-k.invariant.1.1.1 c.wrapping_add_u32-number.ensures)))
+loop-k-preserved c = (omega arith, (c.put_part_at-at.auto.text ∙ c.loop-k.invariant.1.0, (one_more (explained_at c.args.first c.args.log.now c.args.out.now) longest_line c.loop-k.invariant.1.1.0 (rw c.loop-k.invariant.1.1.1 at c.put_part_at-at.ensures), next_number _ _ c.loop-k.invariant.1.1.1 c.wrapping_add_u32-number.ensures.value)))
 
 pub shape_of-text : goal.shape_of-text
 shape_of-text c = c.loop-k.invariant.1.0

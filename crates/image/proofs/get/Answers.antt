@@ -8,9 +8,6 @@ use Rattle.image_write.specs.Bytes.{value, le}
 use Rattle.image.proofs.Turns.{get_turn, get_most, get_fits}
 use Rattle.image.proofs.get.Goals as goal
 
-byte : (c : tie.After-wide invariant-loop decreases-loop) → c.wide.result < 256
-byte c = omega (arith, c.before.shared-slice-known2.given (c.before.before.before.before.before.args.at + (c.before.before.before.loop.k - 1)))
-
 pub loop-k-init : goal.loop-k-init
 unfolding value
 loop-k-init c = (omega arith, (rw sub_self refl, rw sub_self (omega arith)))
@@ -28,7 +25,7 @@ bounds-s-at c = omega arith
 
 pub overflow_add-r : goal.overflow_add-r
 overflow_add-r c = let l = c.loop-k in
-    let h = get_fits c.args.n l.k l.r c.wide.result (omega arith) (omega arith) (omega arith) l.invariant.1.1 (byte c) in
+    let h = get_fits c.args.n l.k l.r c.wide.result (omega arith) (omega arith) (omega arith) l.invariant.1.1 (omega (arith, c.type_inv.s (c.args.at + (c.loop-k.k - 1)))) in
     omega arith
 
 pub loop-k-smaller : goal.loop-k-smaller
@@ -40,7 +37,7 @@ loop-k-preserved c = let l = c.loop-k in
       omega arith,
       (
         get_turn a.s.now a.at a.n l.k l.r c.wide.result (omega arith) (omega arith) (omega arith) l.invariant.1.0 c.wide.ensures,
-        get_most a.n l.k l.r c.wide.result (omega arith) (omega arith) l.invariant.1.1 (byte c),
+        get_most a.n l.k l.r c.wide.result (omega arith) (omega arith) l.invariant.1.1 (omega (arith, c.type_inv.s (c.args.at + (c.loop-k.k - 1)))),
       ),
     )
 
