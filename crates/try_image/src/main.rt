@@ -3,7 +3,8 @@
 // four little-endian words to a step, its number first; tests/image/cases.py makes it, and works out `stdout` by a model.
 #![tactic(auto)]
 
-ghost use Rattle.std.specs.Prelude.{◌<◌, ◌≤◌, length, IfOk};
+ghost use Rattle.std.specs.Prelude.{◌<◌, ◌≤◌};
+ghost use Rattle.std.specs.Io.{ReadsAtMost};
 
 use std::io;
 use std::io::Read;
@@ -31,7 +32,7 @@ fn main(rt: HostRuntime) -> io::Result<()> {
 
 // Reads until `into` is full or the input ends, and answers how many bytes it put at its start.
 fn read_full(from: &mut impl Read, into: &mut [u8]) -> io::Result<usize>
-    ensures { IfOk result (λ n. n ≤ length into.new) }
+    ensures { ReadsAtMost result into.new }
 {
     let mut done = 0;
     while done < into.len() {

@@ -2,7 +2,8 @@
 // words to a case: a number of `step`, then its four arguments. tests/mem_domain/cases.py makes it, and works out `stdout` by a model.
 #![tactic(auto)]
 
-ghost use Rattle.std.specs.Prelude.{◌<◌, ◌≤◌, length, IfOk};
+ghost use Rattle.std.specs.Prelude.{◌<◌};
+ghost use Rattle.std.specs.Io.{ReadsAtMost};
 
 use mem_domain::{Changed, MemDomain};
 use mem_partition::MemPartition;
@@ -26,7 +27,7 @@ fn main(rt: HostRuntime) -> io::Result<()> {
 
 // Reads until `into` is full or the input ends, and answers how many bytes it put at its start.
 fn read_full(from: &mut impl Read, into: &mut [u8]) -> io::Result<usize>
-    ensures { IfOk result (λ n. n ≤ length into.new) }
+    ensures { ReadsAtMost result into.new }
 {
     let mut done = 0;
     while done < into.len() {

@@ -3,7 +3,8 @@
 // or of what lies in the lent run before. tests/mpu/cases.py makes cases, and works out the answers by a model.
 #![tactic(auto)]
 
-ghost use Rattle.std.specs.Prelude.{◌<◌, ◌≤◌, length, IfOk};
+ghost use Rattle.std.specs.Prelude.{◌<◌};
+ghost use Rattle.std.specs.Io.{ReadsAtMost};
 
 use answer::Answer;
 use mem_domain::MemDomain;
@@ -55,7 +56,7 @@ fn one(rt: &impl Print, from: &mut impl Read) -> io::Result<bool> {
 
 // Reads until `into` is full or the input ends, and answers how many bytes it put at its start.
 fn read_full(from: &mut impl Read, into: &mut [u8]) -> io::Result<usize>
-    ensures { IfOk result (λ n. n ≤ length into.new) }
+    ensures { ReadsAtMost result into.new }
 {
     let mut done = 0;
     while done < into.len() {

@@ -3,7 +3,7 @@
 // out `stdout` by a model that keeps a list of 64 yes or no, as upstream does.
 #![tactic(auto)]
 
-ghost use Rattle.std.specs.Prelude.{◌≤◌, length, IfOk};
+ghost use Rattle.std.specs.Io.{ReadsAtMost};
 
 use std::io;
 use std::io::Read;
@@ -28,7 +28,7 @@ fn main(rt: HostRuntime) -> io::Result<()> {
 
 // Reads until `into` is full or the input ends, and answers how many bytes it put at its start.
 fn read_full(from: &mut impl Read, into: &mut [u8]) -> io::Result<usize>
-    ensures { IfOk result (λ n. n ≤ length into.new) }
+    ensures { ReadsAtMost result into.new }
 {
     let mut done = 0;
     while done < into.len() {
