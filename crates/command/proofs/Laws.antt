@@ -8,7 +8,7 @@ use lib.Dec.{eqb, ltb}
 use lib.ListN.{length, take, drop, length-take, length-drop, length-append}
 use lib.Seq.{length-take-le}
 use borrow.Author.Tests.{le-ltb}
-use Rattle.io.specs.Counts.{IsPrefixLen}
+use Rattle.command.specs.Counts.{IsPrefixLen}
 use Rattle.lines.specs.declared.Put.{Put}
 use Rattle.answer.specs.Stores.{cat}
 use Rattle.lines.specs.Lines.{put_with, Lines, lines_answer, text_after}

@@ -1,16 +1,18 @@
 // The command `replay`, whole, as one function that returns its exit status: 0 done, 1 the image was refused, 2 bad usage, or a file or an output that failed.
-// Two programs are made of it: crates/replay, which needs the kit alone and has no status to give, and tools/replay.c, whose two lines return it.
-// Here bytes are only moved: an image is judged by `image::read`, calls are answered and their lines made by `replaying::feed`. Promised inside: at each turn
+// crates/replay is the program over it, which ends with that status. Here bytes are only moved: an image is judged by `image::read`, calls are answered and their lines made by `replaying::feed`. Promised inside: at each turn
 // the state keeps the rules and every buffer has its room (specs/Ready.antt), so no answer of those two is VALUE or ROOM. What the system is handed, and
 // in which order, no contract can say.
 #![tactic(auto)]
 
-ghost use Rattle.std.specs.Prelude.{◌≡◌, cond, ◌&&◌, not, ◌+◌, ◌≤◌, ◌<◌, eqb, length, get_or};
-ghost use Rattle.io.specs.Counts.{IsPrefixLen};
+ghost use Rattle.std.specs.Prelude.{◌≡◌, cond, ◌&&◌, not, ◌+◌, ◌≤◌, ◌<◌, eqb, length, get_or, IfOk};
 ghost use Rattle.rules.specs.Rules.{Sound};
 ghost use Rattle.command.specs.Ready.{Roomy, Ready};
+ghost use Rattle.command.specs.Counts.{IsPrefixLen};
 
-use libc::{STDERR_FILENO, STDIN_FILENO, STDOUT_FILENO};
+use std::env::{Env, FillError};
+use std::fs::Files;
+use std::io::{Cursor, Print, Read, Stderr, Stdin, Stdout, Write};
+use std::{fs, io, str};
 
 // The exit statuses.
 pub const DONE: u32 = 0;
@@ -43,61 +45,98 @@ const FEW_ANSWERS: usize = 2 * FEW;
 
 const FEW_LINES: usize = explain::LONGEST * FEW;
 
+// The longest word of the command line that is read; a longer one counts as empty.
+const WORD: usize = 4096;
+
+// The standard streams.
+#[derive(Clone, Copy)]
+pub struct Streams {
+    pub input: Stdin,
+    pub output: Stdout,
+    pub errors: Stderr,
+}
+
 // ---- what is said
 
 // One line on standard error.
-fn complain(line: &[u8]) -> u32
+fn complain(errors: Stderr, line: &[u8]) -> u32
     ensures { result ≡ 2 }
 {
-    io::write_all(STDERR_FILENO, line);
+    let _ = Print::write_all(&errors, line);
     FAILED
+}
+
+// How many bytes of an error's text are the system's words: std puts the error's number behind them.
+fn words_len(text: &[u8]) -> usize
+    ensures { result ≤ length text.now }
+{
+    for i in 0..text.len() {
+        if text[i..].starts_with(b" (os error ") {
+            return i;
+        }
+    }
+    text.len()
+}
+
+fn put_words(errors: Stderr, why: io::Error) {
+    let mut text = [0u8; 128];
+    let mut free: &mut [u8] = &mut text;
+    let _ = write!(free, "{why}");
+    let n = 128usize.saturating_sub(free.len());
+    let n = words_len(&text[..n]);
+    let _ = Print::write_all(&errors, &text[..n]);
 }
 
 // What failed, and the system's words for why.
-fn fail(what: &[u8]) -> u32
+fn fail(errors: Stderr, what: &[u8], why: io::Error) -> u32
     ensures { result ≡ 2 }
 {
-    io::write_all(STDERR_FILENO, b"replay: ");
-    os::fail(what);
-    FAILED
+    complain(errors, b"replay: ");
+    complain(errors, what);
+    complain(errors, b": ");
+    put_words(errors, why);
+    complain(errors, b"\n")
 }
 
 // The first n bytes, to standard output.
-fn emit(text: &[u8], n: usize, status: u32) -> u32
+fn emit(to: Streams, text: &[u8], n: usize, status: u32) -> u32
     requires { (n ≤ length text.now) × (status < 4) }
     ensures { result < 4 }
 {
-    if io::write_all(STDOUT_FILENO, &text[..n]) {
-        return status;
+    match Print::write_all(&to.output, &text[..n]) {
+        Ok(()) => status,
+        Err(why) => fail(to.errors, b"standard output", why),
     }
-    fail(b"standard output")
 }
 
-fn print(text: &[u8]) -> u32
+fn print(to: Streams, text: &[u8]) -> u32
     ensures { result < 3 }
 {
-    if io::write_all(STDOUT_FILENO, text) {
-        return DONE;
+    match Print::write_all(&to.output, text) {
+        Ok(()) => DONE,
+        Err(why) => fail(to.errors, b"standard output", why),
     }
-    fail(b"standard output")
 }
 
-fn help() -> u32
+fn help(to: Streams) -> u32
     ensures { result < 3 }
 {
     let usage = print(
+        to,
         b"replay IMAGE < CALLS            an answer and a value a call, in decimal\nreplay --explain IMAGE < CALLS  the same in words\n",
     );
     if usage != DONE {
         return usage;
     }
     let options = print(
+        to,
         b"replay --help, -h               this text\nreplay --version                what this is\nreplay [--explain] -- IMAGE     an IMAGE whose name begins with -\n",
     );
     if options != DONE {
         return options;
     }
     print(
+        to,
         b"IMAGE is a state as docs/SPEC.md has it; a call is sixteen bytes. A refused image\nprints its answer and 0, and no call is read. A last part under sixteen bytes is 7 0.\nExit status: 0 done, 1 the image was refused, 2 usage, or a file or output that failed.\n",
     )
 }
@@ -160,32 +199,23 @@ fn with_option(a: Asked, word: &[u8]) -> Asked
     requires { a.what < 6 }
     ensures { result.what < 6 }
 {
-    if check::same(word, b"--") {
-        return Asked {
+    match word {
+        b"--" => Asked {
             what: a.what,
             words: a.words,
             options: false,
             image: a.image,
-        };
-    }
-    if check::same(word, b"--explain") {
-        return Asked {
+        },
+        b"--explain" => Asked {
             what: a.what,
             words: true,
             options: a.options,
             image: a.image,
-        };
+        },
+        b"--version" => raised(a, VERSION),
+        b"--help" | b"-h" => raised(a, HELP),
+        _ => raised(a, UNKNOWN),
     }
-    if check::same(word, b"--version") {
-        return raised(a, VERSION);
-    }
-    if check::same(word, b"--help") {
-        return raised(a, HELP);
-    }
-    if check::same(word, b"-h") {
-        return raised(a, HELP);
-    }
-    raised(a, UNKNOWN)
 }
 
 fn is_option(word: &[u8]) -> bool
@@ -209,16 +239,41 @@ fn with_word(a: Asked, word: &[u8], i: usize) -> Asked
     with_file(a, i)
 }
 
-fn with_argument(a: Asked, i: usize) -> Asked
+// An argument's bytes, at the start of a buffer.
+fn argument<R: Env>(rt: &R, i: usize, word: &mut [u8]) -> usize
+    ensures { IsPrefixLen result word.new }
+{
+    match rt.arg(i, word) {
+        Ok(n) => n,
+        Err(_) => 0,
+    }
+}
+
+fn is_there<R: Env>(rt: &R, i: usize) -> bool {
+    let mut none = [0u8; 0];
+    !matches!(rt.arg(i, &mut none), Err(FillError::NotPresent))
+}
+
+// The program's name is the first.
+fn argument_count<R: Env>(rt: &R) -> usize {
+    for i in 0..usize::MAX {
+        if !is_there(rt, i) {
+            return i;
+        }
+    }
+    usize::MAX
+}
+
+fn with_argument<R: Env>(rt: &R, a: Asked, i: usize) -> Asked
     requires { a.what < 6 }
     ensures { result.what < 6 }
 {
-    let mut word = io::buffer();
-    let n = os::arg(i, &mut word);
+    let mut word = [0u8; WORD];
+    let n = argument(rt, i, &mut word);
     with_word(a, &word[..n], i)
 }
 
-fn all_asked() -> Asked
+fn all_asked<R: Env>(rt: &R) -> Asked
     ensures { result.what < 6 }
 {
     let mut a = Asked {
@@ -227,66 +282,60 @@ fn all_asked() -> Asked
         options: true,
         image: 0,
     };
-    let n = os::arg_count();
-    let mut i: usize = 1;
-    while i < n {
-        a = with_argument(a, i);
-        i += 1;
+    let n = argument_count(rt);
+    for i in 1..n {
+        a = with_argument(rt, a, i);
     }
     a
 }
 
 // ---- reading
 
-// What a reading brought: how many bytes, and whether it failed.
+// What a reading brought: how many bytes, and why it failed.
 #[derive(Clone, Copy)]
 struct Got {
     bytes: usize,
-    failed: bool,
+    failed: Option<io::Error>,
 }
 
 // One reading into a buffer from a place on: what has come by now, none at the input's end.
-fn read_more(fd: i32, buf: &mut [u8], from: usize) -> Got
+fn read_more<R: Read>(input: &mut R, buf: &mut [u8], from: usize) -> Got
     requires { from ≤ length buf.old }
     ensures { from + result.bytes ≤ length buf.new }
 {
-    let got = libc::read(fd, &mut buf[from..]);
-    if got < 0 {
-        return Got {
+    match input.read(&mut buf[from..]) {
+        Ok(bytes) => Got {
+            bytes,
+            failed: None,
+        },
+        Err(why) => Got {
             bytes: 0,
-            failed: true,
-        };
-    }
-    Got {
-        bytes: io::count(got, &buf[from..]),
-        failed: false,
+            failed: Some(why),
+        },
     }
 }
 
 // Reads until the buffer is full or the input ends, in whatever pieces it comes.
-fn fill(fd: i32, buf: &mut [u8]) -> Got
+fn fill<R: Read>(input: &mut R, buf: &mut [u8]) -> Got
     ensures { IsPrefixLen result.bytes buf.new }
 {
     let mut done: usize = 0;
     while done < buf.len() {
-        let got = read_more(fd, buf, done);
-        if got.failed {
-            return Got {
-                bytes: 0,
-                failed: true,
-            };
+        let got = read_more(input, buf, done);
+        if got.failed.is_some() {
+            return got;
         }
         if got.bytes == 0 {
             return Got {
                 bytes: done,
-                failed: false,
+                failed: None,
             };
         }
         done += got.bytes;
     }
     Got {
         bytes: done,
-        failed: false,
+        failed: None,
     }
 }
 
@@ -312,6 +361,7 @@ fn status_of(came: usize) -> u32
 
 // What has come by now is answered and printed.
 fn turn(
+    with: Streams,
     objects: &mut [u64],
     threads: &mut [u32],
     slots: &mut [u32],
@@ -324,10 +374,11 @@ fn turn(
     requires { Ready words objects.old threads.old slots.old log.old out.old text.old t.have }
     ensures { (result.status < 4) × Ready words objects.new threads.new slots.new log.new out.new text.new result.have }
 {
-    let got = read_more(STDIN_FILENO, log, t.have);
-    if got.failed {
+    let mut input = with.input;
+    let got = read_more(&mut input, log, t.have);
+    if let Some(why) = got.failed {
         return Place {
-            status: fail(b"standard input"),
+            status: fail(with.errors, b"standard input", why),
             have: t.have,
             first: t.first,
         };
@@ -337,20 +388,21 @@ fn turn(
     );
     let put = fed.put;
     Place {
-        status: emit(text, put.bytes, status_of(got.bytes)),
+        status: emit(with, text, put.bytes, status_of(got.bytes)),
         have: fed.left,
         first: fed.next,
     }
 }
 
-fn no_end() -> u32
+fn no_end(errors: Stderr) -> u32
     ensures { result ≡ 2 }
 {
-    complain(b"replay: standard input does not end\n")
+    complain(errors, b"replay: standard input does not end\n")
 }
 
-// A proved loop has to end, and nothing says that the input does: the turns are counted down from a number that no run uses up.
+// A proved loop has to end, and nothing says that the input does: the turns are counted up to a number that no run reaches.
 fn every(
+    with: Streams,
     objects: &mut [u64],
     threads: &mut [u32],
     slots: &mut [u32],
@@ -367,18 +419,16 @@ fn every(
         have: 0,
         first: 1,
     };
-    let mut turns = u64::MAX;
-    while turns > 0 {
-        t = turn(objects, threads, slots, log, out, text, words, t);
+    for _ in 0..u64::MAX {
+        t = turn(with, objects, threads, slots, log, out, text, words, t);
         if t.status < ON {
             return t.status;
         }
-        turns -= 1;
     }
-    no_end()
+    no_end(with.errors)
 }
 
-fn in_numbers(objects: &mut [u64], threads: &mut [u32], slots: &mut [u32]) -> u32
+fn in_numbers(with: Streams, objects: &mut [u64], threads: &mut [u32], slots: &mut [u32]) -> u32
     requires { Sound objects.old threads.old slots.old }
     ensures { result < 3 }
 {
@@ -386,37 +436,39 @@ fn in_numbers(objects: &mut [u64], threads: &mut [u32], slots: &mut [u32]) -> u3
     let mut out = [0u32; ANSWERS];
     let mut text = [0u8; LINES];
     every(
-        objects, threads, slots, &mut log, &mut out, &mut text, false,
+        with, objects, threads, slots, &mut log, &mut out, &mut text, false,
     )
 }
 
-fn in_words(objects: &mut [u64], threads: &mut [u32], slots: &mut [u32]) -> u32
+fn in_words(with: Streams, objects: &mut [u64], threads: &mut [u32], slots: &mut [u32]) -> u32
     requires { Sound objects.old threads.old slots.old }
     ensures { result < 3 }
 {
     let mut log = [0u8; FEW_LOG];
     let mut out = [0u32; FEW_ANSWERS];
     let mut text = [0u8; FEW_LINES];
-    every(objects, threads, slots, &mut log, &mut out, &mut text, true)
+    every(
+        with, objects, threads, slots, &mut log, &mut out, &mut text, true,
+    )
 }
 
 // ---- the image
 
 // A refused image: its answer and 0, and no call is read.
-fn refuse(code: u32, words: bool) -> u32
+fn refuse(to: Streams, code: u32, words: bool) -> u32
     ensures { result < 3 }
 {
     let mut text = [0u8; replaying::REFUSAL];
     let put = replaying::put_refusal(code, words, &mut text);
     let bytes = put.bytes;
-    if io::write_all(STDOUT_FILENO, &text[..bytes]) {
-        return REFUSED;
+    match Print::write_all(&to.output, &text[..bytes]) {
+        Ok(()) => REFUSED,
+        Err(why) => fail(to.errors, b"standard output", why),
     }
-    fail(b"standard output")
 }
 
 // The image as bytes and, where it is a state, the calls.
-fn replay(file: &[u8], words: bool) -> u32
+fn replay(with: Streams, file: &[u8], words: bool) -> u32
     ensures { result < 3 }
 {
     let mut objects = [0u64; 512];
@@ -425,61 +477,83 @@ fn replay(file: &[u8], words: bool) -> u32
     let mut code = 0u32;
     image::read(file, &mut objects, &mut threads, &mut slots, &mut code);
     if code != answer::OK {
-        return refuse(code, words);
+        return refuse(with, code, words);
     }
     if words {
-        return in_words(&mut objects, &mut threads, &mut slots);
+        return in_words(with, &mut objects, &mut threads, &mut slots);
     }
-    in_numbers(&mut objects, &mut threads, &mut slots)
+    in_numbers(with, &mut objects, &mut threads, &mut slots)
 }
 
-// The file is closed before a call is read: where standard input is closed, the file has its number.
-fn open(path: &[u8], words: bool) -> u32
+// The system's number for bytes that are no text.
+const EILSEQ: i32 = 84;
+
+// The name as text, since std opens no other.
+fn name_of(path: &[u8]) -> io::Result<&str> {
+    match str::from_utf8(path) {
+        Ok(name) => Ok(name),
+        Err(_) => Err(io::Error::from_raw_os_error(EILSEQ)),
+    }
+}
+
+// The file is closed behind it, before a call is read: where standard input is closed, the file has its number.
+fn load<R: Files>(rt: &R, path: &[u8], file: &mut [u8]) -> io::Result<usize>
+    ensures { IfOk result (λ n. IsPrefixLen n file.new) }
+{
+    let mut opened = fs::open(rt, name_of(path)?)?;
+    let got = fill(&mut opened, file);
+    match got.failed {
+        None => Ok(got.bytes),
+        Some(why) => Err(why),
+    }
+}
+
+fn open<R: Files>(rt: &R, with: Streams, path: &[u8], words: bool) -> u32
     ensures { result < 3 }
 {
-    let fd = os::open_read(path);
-    if fd < 0 {
-        return fail(path);
-    }
     let mut file = [0u8; IMAGE];
-    let got = fill(fd, &mut file);
-    if got.failed {
-        let failed = fail(path);
-        libc::close(fd);
-        return failed;
+    match load(rt, path, &mut file) {
+        Ok(n) => replay(with, &file[..n], words),
+        Err(why) => fail(with.errors, path, why),
     }
-    libc::close(fd);
-    let n = got.bytes;
-    replay(&file[..n], words)
 }
 
-fn open_argument(i: usize, words: bool) -> u32
+fn open_argument<R: Env + Files>(rt: &R, with: Streams, i: usize, words: bool) -> u32
     ensures { result < 3 }
 {
-    let mut path = io::buffer();
-    let n = os::arg(i, &mut path);
-    open(&path[..n], words)
+    let mut path = [0u8; WORD];
+    let n = argument(rt, i, &mut path);
+    open(rt, with, &path[..n], words)
 }
 
 // ---- the command
 
 // The whole of it. The status is 0, 1 or 2.
-#[unsafe(no_mangle)]
-pub extern "C" fn wardlatch_replay() -> u32
+pub fn wardlatch_replay<R: Env + Files>(rt: &R, with: Streams) -> u32
     ensures { result < 3 }
 {
-    let a = all_asked();
+    let a = all_asked(rt);
     let what = a.what;
     match what {
-        NO_FILE => complain(b"replay: an image file is needed; replay --help says more\n"),
-        ONE_FILE => open_argument(a.image, a.words),
+        NO_FILE => complain(
+            with.errors,
+            b"replay: an image file is needed; replay --help says more\n",
+        ),
+        ONE_FILE => open_argument(rt, with, a.image, a.words),
         MORE_FILES => {
             complain(
+                with.errors,
                 b"replay: one image file is needed, not two: the calls come from standard input; replay --help says more\n",
             )
         }
-        UNKNOWN => complain(b"replay: no such option; replay --help says more\n"),
-        VERSION => print(b"replay 1, of wardlatch: images WLATCH01, calls of sixteen bytes\n"),
-        _ => help(),
+        UNKNOWN => complain(
+            with.errors,
+            b"replay: no such option; replay --help says more\n",
+        ),
+        VERSION => print(
+            with,
+            b"replay 1, of wardlatch: images WLATCH01, calls of sixteen bytes\n",
+        ),
+        _ => help(with),
     }
 }

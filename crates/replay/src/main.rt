@@ -1,7 +1,14 @@
-// The program `replay` for a machine with the kit alone. A program of Rattle has no exit status, so what the command returns is dropped here, and here alone;
-// tools/replay.c is the same command with its status (docs/DECISIONS.md, "Replay").
+// The program `replay`: the command, whose exit status it ends with (docs/DECISIONS.md, "Replay").
 #![tactic(auto)]
 
-fn main() {
-    command::wardlatch_replay();
+use command::Streams;
+use std::process::ExitCode;
+
+fn main(rt: HostRuntime) -> ExitCode {
+    let with = Streams {
+        input: rt.stdin(),
+        output: rt.stdout(),
+        errors: rt.stderr(),
+    };
+    ExitCode::from(command::wardlatch_replay(&rt, with) as u8)
 }
