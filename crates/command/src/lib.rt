@@ -1,5 +1,6 @@
 // The command `replay`, whole, as one function that returns its exit status: 0 done, 1 the image was refused, 2 bad usage, or a file or an output that failed.
-// crates/replay is the program over it, which ends with that status. Here bytes are only moved: an image is judged by `image::read`, calls are answered and their lines made by `replaying::feed`. Promised inside: at each turn
+// The program crates/replay calls it and ends with that status.
+// Here bytes are only moved: an image is judged by `image::read`, calls are answered and their lines made by `replaying::feed`. Promised inside: at each turn
 // the state keeps the rules and every buffer has its room (specs/Ready.antt), so no answer of those two is VALUE or ROOM. What the system is handed, and
 // in which order, no contract can say.
 #![tactic(auto)]
@@ -11,7 +12,7 @@ ghost use Rattle.command.specs.Counts.{IsPrefixLen};
 
 use std::env::{Env, FillError};
 use std::fs::Files;
-use std::io::{Cursor, Print, Read, Stderr, Stdin, Stdout, Write};
+use std::io::{Print, Read, Stderr, Stdin, Stdout, Write};
 use std::{fs, io, str};
 
 // The exit statuses.
@@ -66,25 +67,20 @@ fn complain(errors: Stderr, line: &[u8]) -> u32
     FAILED
 }
 
-// How many bytes of an error's text are the system's words: std puts the error's number behind them.
-fn words_len(text: &[u8]) -> usize
-    ensures { result ≤ length text.now }
-{
-    for i in 0..text.len() {
-        if text[i..].starts_with(b" (os error ") {
-            return i;
-        }
-    }
-    text.len()
-}
-
+// The system's words for why; std puts the error's number behind them, which is not said here.
 fn put_words(errors: Stderr, why: io::Error) {
     let mut text = [0u8; 128];
     let mut free: &mut [u8] = &mut text;
     let _ = write!(free, "{why}");
     let n = 128usize.saturating_sub(free.len());
-    let n = words_len(&text[..n]);
-    let _ = Print::write_all(&errors, &text[..n]);
+    let Ok(text) = str::from_utf8(&text[..n]) else {
+        return;
+    };
+    let words = match text.split_once(" (os error ") {
+        Some((words, _)) => words,
+        None => text,
+    };
+    let _ = Print::write_all(&errors, words.as_bytes());
 }
 
 // What failed, and the system's words for why.
@@ -496,7 +492,7 @@ fn name_of(path: &[u8]) -> io::Result<&str> {
     }
 }
 
-// The file is closed behind it, before a call is read: where standard input is closed, the file has its number.
+// As much of the file as has room. It is closed behind that, before a call is read: where standard input is closed, the file has its number.
 fn load<R: Files>(rt: &R, path: &[u8], file: &mut [u8]) -> io::Result<usize>
     ensures { IfOk result (λ n. IsPrefixLen n file.new) }
 {
