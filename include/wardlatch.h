@@ -1,4 +1,4 @@
-/* wardlatch, the access latch: what firmware links (target/staticlib/libfirmware.a, made by `rt staticlib firmware`).
+/* wardlatch, the access latch: what firmware links (target/staticlib/libfirmware.a, made by `tools/make-library firmware`).
  *
  * Every function is total: it answers for all numbers, all bytes and every length, allocates nothing and keeps nothing between calls. The archive needs no
  * function from outside but memcpy, memset, memmove and memcmp, which a compiler may put in.

@@ -1,6 +1,6 @@
 /* A small pump driven from C: five programs on one processor, and a radio that must never reach the rate setpoint.
  * examples/rust/pump.rs is the same in Rust and prints the same lines (tests/firmware/run compares both with tests/firmware/pump.out).
- * In the repository's folder, after `rt staticlib firmware`:
+ * In the repository's folder, after `tools/make-library firmware`:
  *
  *     gcc -std=c99 -Wall -Wextra -pedantic -Iinclude -o /tmp/pump examples/c/pump.c target/staticlib/libfirmware.a && /tmp/pump
  */

@@ -1,6 +1,6 @@
 // A small pump driven from Rust: five programs on one processor, and a radio that must never reach the rate setpoint.
 // examples/c/pump.c is the same in C and prints the same lines (tests/firmware/run compares both with tests/firmware/pump.out).
-// In the repository's folder, after `rt staticlib firmware`:
+// In the repository's folder, after `tools/make-library firmware`:
 //
 //     rustc -O --edition 2021 -L target/staticlib -l static=firmware -o /tmp/pump examples/rust/pump.rs && /tmp/pump
 

@@ -59,8 +59,8 @@ def declarations(text):
 def imports(text):
     """Every name that a file brings in from a crate here: its crate, folder, module and name there."""
     out = {}
-    for module, names in re.findall(r'^\s*(?:ghost )?use (Rattle·[\w·.]+)\.\{([^}]*)\}', text, re.M):
-        m = re.fullmatch(r'Rattle·(\w+?)(?:·specs|·proofs)?\.(specs|proofs)\.(\w+)', module)
+    for module, names in re.findall(r'^\s*(?:ghost )?use (Rattle\.[\w.]+)\.\{([^}]*)\}', text, re.M):
+        m = re.fullmatch(r'Rattle\.(\w+)\.(specs|proofs)\.(\w+)', module)
         for item in names.split(',') if m else []:
             there, _, here = item.partition(' as ')
             if there.strip():
@@ -81,8 +81,8 @@ class Meaning:
         """What names in a text stand for, operators by their parts."""
         found = set(NAME.findall(text))
         for name in list(own) + list(brought):
-            parts = [p for p in name.split('_') if p]
-            if '_' in name and parts and all(p in found for p in parts):
+            parts = [p for p in name.split('◌') if p]
+            if '◌' in name and parts and all(p in found for p in parts):
                 found.add(name)
         return found
 

@@ -5,7 +5,7 @@ Run in the repository:  python3 tests/mem_domain/cases.py         writes crates/
                         python3 tests/mem_domain/cases.py --check  says whether the stored files are those
 
 The list is made from the seed below, so that it is the same at every run. The answers come from `Domain`, a model of
-docs/SPEC.md, 3, that has nothing from the Rattle code; `rt check try_mem_domain` runs the program on
+docs/SPEC.md, 3, that has nothing from the Rattle code; `rt ci` runs the program on
 stdin and compares what it writes with stdout. A case is five little-endian 32-bit words: a number, then four arguments.
 
   0               a new domain

@@ -1,7 +1,7 @@
 #!/usr/bin/env python3
 """Cases for the checker and the planner, and their answers by a model of docs/SPEC.md, 10.
 
-  cases.py stored          writes crates/try_mpu/stdin and crates/try_mpu/stdout, which rt check and rt ci compare
+  cases.py stored          writes crates/try_mpu/stdin and crates/try_mpu/stdout, which rt ci compares
   cases.py compare PROGRAM [COUNT]
                            feeds COUNT (120000) seeded cases to PROGRAM (target/bin/try_mpu) and compares each answer;
                            the last line is 'N passed, M failed'

@@ -4,7 +4,7 @@
     tests/userspace/cases.py    writes crates/try_userspace/stdin (the cases) and crates/try_userspace/stdout (the answers)
     tests/userspace/run         fails where the two files are not what this program writes
 
-`rt check try_userspace` runs the cases over the proved crate and compares. The answers come from a model of docs/SPEC.md, 4:
+`rt ci` runs the cases over the proved crate and compares. The answers come from a model of docs/SPEC.md, 4:
 a record with upstream's fields and a list of 64 yes or no, no word and no shift but in reading and printing it. Seeded, so that every
 run writes the same. Python 3, standard library alone.
 """

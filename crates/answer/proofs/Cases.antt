@@ -1,14 +1,13 @@
 -- The table of answers, line by line, and that names and numbers are each other's inverse.
 use Prim.Native.Nat.{ℕ, ◌<◌, ◌≤◌}
-use mathlib.Core.Path.{◌≡◌, refl, sym, ◌∙◌}
-use lib.IntN.{ℤ, pos, neg_ℤ}
+use mathlib.Core.Path.{◌≡◌, refl}
+use lib.IntN.{pos, neg_ℤ}
 use native.Mathlib.Omega.{arith}
 use Rattle.answer.specs.Tests.{gt_eqb}
 use Rattle.answer.specs.Answer.{number_of, code_of, errno_of, known}
 use Rattle.answer.specs.declared.Code.{Code}
 use Rattle.answer.specs.declared.Code.TheVariants.{Ok, Einval, Eperm, Ebadf, Eaddrinuse, Enospc, Enoent, Short, Magic, Value, Noplan, Room, Differs}
 use Rattle.answer.specs.declared.Named.TheVariants.{Is, Nothing}
-use Rattle.answer.specs.declared.Errno.{Errno}
 
 pub ok_is_0 : errno_of 0 ≡ known (pos 0)
 unfolding errno_of

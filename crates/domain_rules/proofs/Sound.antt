@@ -1,10 +1,9 @@
 -- The test of a domain's rules and the rules in plain statements are the same.
-use Prim.Native.Nat.{ℕ, ◌+◌, ◌≤◌, ◌<◌}
-use native.Mathlib.Decide.{dec_lt, ℕ_discrete}
+use Prim.Native.Nat.{ℕ, ◌≤◌, ◌<◌}
+use native.Mathlib.Decide.{dec_lt}
 use native.Mathlib.Omega.{arith}
-use mathlib.Core.Path.{◌≡◌, refl, sym, ap, ap₂, ◌∙◌}
+use mathlib.Core.Path.{◌≡◌, refl, sym, ap, ◌∙◌}
 use mathlib.Core.Bool.{Bool, true, false, cond, not, ◌&&◌, ◌||◌, true≢false, false≢true}
-use mathlib.Core.Logic.{◌⊎◌, inl, inr, ⊎_elim}
 use mathlib.Core.List.{List}
 use lib.Dec.{eqb}
 use lib.ListN.{length, get_or-eq_default}
@@ -14,7 +13,7 @@ use Rattle.mem_domain.specs.Domain.{slots, slot_at, active_count, with_count}
 use Rattle.domain_rules.specs.Scan.{all_to}
 use Rattle.domain_rules.specs.Sound.{SlotsKeep, attr_ok, slot_ok, apart_of, apart_to, slot_sound, slots_sound, domain_sound}
 use Rattle.mem_partition.specs.declared.MemPartition.{MemPartition}
-use Rattle.domain_rules.proofs.All.{both_true, both, either_true, or_left, or_right, isnt_true, all_at, all_from}
+use Rattle.domain_rules.proofs.All.{both_true, both, all_at, all_from}
 use Rattle.mem_partition.proofs.Partition.{overlap_sym}
 
 -- ---- one slot

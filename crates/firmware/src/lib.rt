@@ -1,5 +1,5 @@
-// What firmware links: the latch's functions with C's calling convention, numbers and lent slices only. Each is total: any tables, any bytes, any words.
-// A slice is a pointer and a number of elements behind it. Promised: what the function below promises; a value comes back in a lent number.
+// What firmware links: the latch's functions over numbers and lent slices only. Each is total: any tables, any bytes, any words.
+// The crate firmware_c exports each to C under its name. Promised: what the function below promises; a value comes back in a lent number.
 // A domain is lent as 48 words, sixteen slots of start, size, attr; another number of words is VALUE before all else. include/wardlatch.h declares all.
 #![tactic(auto)]
 
@@ -24,8 +24,7 @@ use mem_domain::{Changed, Got};
 use mem_partition::MemPartition;
 
 // One call; returns the answer's number.
-#[unsafe(no_mangle)]
-pub extern "C" fn wardlatch_call(
+pub fn wardlatch_call(
     objects: &mut [u64],
     threads: &mut [u32],
     slots: &mut [u32],
@@ -40,8 +39,7 @@ pub extern "C" fn wardlatch_call(
 }
 
 // A log of calls; returns the answer's number, and in `answers` how many answers stand in `out`.
-#[unsafe(no_mangle)]
-pub extern "C" fn wardlatch_run(
+pub fn wardlatch_run(
     objects: &mut [u64],
     threads: &mut [u32],
     slots: &mut [u32],
@@ -57,8 +55,7 @@ pub extern "C" fn wardlatch_run(
 }
 
 // Reads an image into the tables; in `left` how many bytes lie behind it, 0 on a refusal.
-#[unsafe(no_mangle)]
-pub extern "C" fn wardlatch_read(
+pub fn wardlatch_read(
     image: &[u8],
     objects: &mut [u64],
     threads: &mut [u32],
@@ -74,8 +71,7 @@ pub extern "C" fn wardlatch_read(
 }
 
 // Writes the tables as an image; in `written` its bytes.
-#[unsafe(no_mangle)]
-pub extern "C" fn wardlatch_write(
+pub fn wardlatch_write(
     objects: &[u64],
     threads: &[u32],
     slots: &[u32],
@@ -90,8 +86,7 @@ pub extern "C" fn wardlatch_write(
 }
 
 // Plans a domain; in `words` how many words of `out` the plan has.
-#[unsafe(no_mangle)]
-pub extern "C" fn wardlatch_plan(
+pub fn wardlatch_plan(
     domain: &[u32],
     regions: u32,
     out: &mut [u32],
@@ -109,8 +104,7 @@ pub extern "C" fn wardlatch_plan(
 }
 
 // Checks any plan against a domain.
-#[unsafe(no_mangle)]
-pub extern "C" fn wardlatch_check(domain: &[u32], plan: &[u32]) -> u32
+pub fn wardlatch_check(domain: &[u32], plan: &[u32]) -> u32
     ensures { result ≡ (judged domain.now (checked (domain_in domain.now) plan.now)).code }
 {
     if domain.len() != NUMBERS {
@@ -135,8 +129,7 @@ fn settle(domain: &mut [u32], c: Changed, slot: &mut u32) -> u32
     c.code
 }
 
-#[unsafe(no_mangle)]
-pub extern "C" fn wardlatch_domain_add(
+pub fn wardlatch_domain_add(
     domain: &mut [u32],
     start: u32,
     size: u32,
@@ -150,8 +143,7 @@ pub extern "C" fn wardlatch_domain_add(
     settle(domain, changed, slot)
 }
 
-#[unsafe(no_mangle)]
-pub extern "C" fn wardlatch_domain_remove(
+pub fn wardlatch_domain_remove(
     domain: &mut [u32],
     start: u32,
     size: u32,
@@ -177,8 +169,7 @@ fn got_in(domain: &[u32], index: u32) -> Got
     tables::load_domain(domain, 0).partition_get(index)
 }
 
-#[unsafe(no_mangle)]
-pub extern "C" fn wardlatch_domain_get(
+pub fn wardlatch_domain_get(
     domain: &[u32],
     index: u32,
     start: &mut u32,
@@ -216,8 +207,7 @@ fn say(domain: &[u32], yes: bool) -> Answer
     }
 }
 
-#[unsafe(no_mangle)]
-pub extern "C" fn wardlatch_domain_has_free(domain: &[u32], value: &mut u32) -> u32
+pub fn wardlatch_domain_has_free(domain: &[u32], value: &mut u32) -> u32
     ensures { record { code = result; value = value.new } ≡ judged domain.now (said (has_free (domain_in domain.now).partitions)) }
 {
     let free = say(domain, tables::load_domain(domain, 0).has_free_slot());
@@ -225,8 +215,7 @@ pub extern "C" fn wardlatch_domain_has_free(domain: &[u32], value: &mut u32) -> 
     free.code
 }
 
-#[unsafe(no_mangle)]
-pub extern "C" fn wardlatch_domain_contains(domain: &[u32], addr: u32, value: &mut u32) -> u32
+pub fn wardlatch_domain_contains(domain: &[u32], addr: u32, value: &mut u32) -> u32
     ensures { record { code = result; value = value.new } ≡ judged domain.now (said (contains_addr (domain_in domain.now).partitions addr)) }
 {
     let held = say(domain, tables::load_domain(domain, 0).contains_addr(addr));
@@ -234,15 +223,13 @@ pub extern "C" fn wardlatch_domain_contains(domain: &[u32], addr: u32, value: &m
     held.code
 }
 
-#[unsafe(no_mangle)]
-pub extern "C" fn wardlatch_partition_valid(start: u32, size: u32) -> bool
+pub fn wardlatch_partition_valid(start: u32, size: u32) -> bool
     ensures { result ≡ is_valid (window_of start size) }
 {
     mem_partition::partition_valid_decide(start, size)
 }
 
-#[unsafe(no_mangle)]
-pub extern "C" fn wardlatch_partitions_overlap(
+pub fn wardlatch_partitions_overlap(
     start: u32,
     size: u32,
     other_start: u32,
@@ -253,44 +240,38 @@ pub extern "C" fn wardlatch_partitions_overlap(
     mem_partition::partitions_overlap_decide(start, size, other_start, other_size)
 }
 
-// The permission leaf, as userspace_c has it: only an archive's own crate exports.
-#[unsafe(no_mangle)]
-pub extern "C" fn wardlatch_grant(word: &mut u64, tid: u32) -> u32
+// The permission leaf, as userspace_c has it.
+pub fn wardlatch_grant(word: &mut u64, tid: u32) -> u32
     ensures { Grants word.old tid result word.new }
 {
     userspace_c::userspace_grant(word, tid)
 }
 
-#[unsafe(no_mangle)]
-pub extern "C" fn wardlatch_revoke(word: &mut u64, tid: u32) -> u32
+pub fn wardlatch_revoke(word: &mut u64, tid: u32) -> u32
     ensures { Revokes word.old tid result word.new }
 {
     userspace_c::userspace_revoke(word, tid)
 }
 
-#[unsafe(no_mangle)]
-pub extern "C" fn wardlatch_recycle(flags: &mut u8, word: &mut u64, tid: u32) -> u32
+pub fn wardlatch_recycle(flags: &mut u8, word: &mut u64, tid: u32) -> u32
     ensures { Recycles flags.old word.old tid result flags.new word.new }
 {
     userspace_c::userspace_recycle(flags, word, tid)
 }
 
-#[unsafe(no_mangle)]
-pub extern "C" fn wardlatch_has_perm(word: u64, tid: u32, value: &mut u32) -> u32
+pub fn wardlatch_has_perm(word: u64, tid: u32, value: &mut u32) -> u32
     ensures { Queries word tid result value.new }
 {
     userspace_c::userspace_has_perm(word, tid, value)
 }
 
-#[unsafe(no_mangle)]
-pub extern "C" fn wardlatch_check_access(flags: u8, word: u64, tid: u32, supervisor: bool) -> bool
+pub fn wardlatch_check_access(flags: u8, word: u64, tid: u32, supervisor: bool) -> bool
     ensures { result ≡ may_use flags word tid supervisor }
 {
     userspace_c::userspace_check_access(flags, word, tid, supervisor)
 }
 
-#[unsafe(no_mangle)]
-pub extern "C" fn wardlatch_validate(
+pub fn wardlatch_validate(
     kind: u8,
     flags: u8,
     word: u64,
@@ -305,8 +286,7 @@ pub extern "C" fn wardlatch_validate(
 }
 
 // Upstream's number for an answer.
-#[unsafe(no_mangle)]
-pub extern "C" fn wardlatch_to_errno(answer: u32, value: &mut i32) -> u32
+pub fn wardlatch_to_errno(answer: u32, value: &mut i32) -> u32
     ensures { record { code = result; value = value.new } ≡ errno_of answer }
 {
     let errno = answer::to_errno(answer);

@@ -1,11 +1,11 @@
 -- Laws of bytes, of records one behind the other, and of runs of stores: what every loop that writes or reads an image cites.
 use Prim.Native.Nat.{ℕ, zero, suc, ◌+◌, ◌*◌, ◌/◌, ◌%◌, ◌≤◌, ◌<◌, ◌-◌}
-use native.Mathlib.Nat.{add-zero, add-sub_cancel_left, mul-suc, le_refl, zero-add}
+use native.Mathlib.Nat.{add-sub_cancel_left, mul-suc, le_refl, zero-add}
 use native.Mathlib.Numerals.{add-one}
 use native.Mathlib.Decide.{dec_le}
 use native.Mathlib.Omega.{arith}
 use mathlib.Core.Path.{◌≡◌, refl, sym, ap, ◌∙◌}
-use mathlib.Core.List.{List, [], ◌∷◌, ◌++◌, append_assoc, append-nil}
+use mathlib.Core.List.{List, ◌++◌, append_assoc, append-nil}
 use lib.ListN.{length, take, drop, get_or, set, length-append, length-drop}
 use lib.Seq.{sets, sets-eq, take_at, drop-cons, drop-length, drop-drop, length-take-le}
 use Rattle.answer.specs.Stores.{cat, sets_append, sets_front}

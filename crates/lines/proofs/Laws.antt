@@ -5,7 +5,7 @@ use mathlib.Core.Path.{◌≡◌, refl, ◌∙◌}
 use mathlib.Core.List.{List, [], ◌∷◌}
 use lib.ListN.{length, set, length-set}
 use borrow.Author.Tests.{lt-ltb}
-use Rattle.text.specs.Text.{ascii, places, digits, decimal, Put}
+use Rattle.text.specs.Text.{places, digits, decimal, Put}
 use Rattle.lines.specs.Lines.{line}
 use Rattle.lines.specs.Steps.{Piece, number_piece, ◌then◌, loosely}
 

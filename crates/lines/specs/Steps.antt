@@ -1,6 +1,6 @@
 -- What functions inside promise of bytes that they put at a place: the place behind them, the buffer, and how many bytes they are at most;
 -- with the laws by which pieces follow one another.
-use Prim.Native.Nat.{ℕ, zero, suc, ◌+◌, ◌*◌, ◌/◌, ◌≤◌, ◌<◌}
+use Prim.Native.Nat.{ℕ, suc, ◌+◌, ◌*◌, ◌/◌, ◌≤◌, ◌<◌}
 use Rattle.std.proofs.Common.{zero-add, add-one, sym, subst, ◌∙◌, length-append}
 use native.Mathlib.Omega.{arith}
 use Rattle.std.specs.Prelude.{◌≡◌, List, ◌++◌}

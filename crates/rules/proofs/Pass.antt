@@ -1,26 +1,25 @@
 -- The pass over the threads: what holds after t turns, and what the code may answer then.
-use Prim.Native.Nat.{ℕ, zero, suc, ◌+◌, ◌*◌, ◌/◌, ◌%◌, ◌≤◌, ◌<◌}
-use native.Mathlib.Nat.{le_refl}
+use Prim.Native.Nat.{ℕ, zero, suc, ◌+◌, ◌/◌, ◌%◌, ◌≤◌, ◌<◌}
 use native.Mathlib.Decide.{ℕ_discrete}
 use native.Mathlib.Omega.{arith}
 use mathlib.Core.Path.{◌≡◌, refl, sym, ap, ◌∙◌}
 use mathlib.Core.Logic.{◌≢◌}
-use mathlib.Core.Bool.{Bool, true, false, cond, not, ◌&&◌, ◌||◌, true≢false, false≢true}
-use mathlib.Core.List.{List, [], ◌∷◌}
+use mathlib.Core.Bool.{Bool, true, false, cond, not, ◌&&◌, ◌||◌}
+use mathlib.Core.List.{List}
 use lib.Dec.{eqb}
 use lib.ListN.{length, get_or, set, length-set, replicate}
 use lib.Seq.{get_or-set_same, get_or-set_other}
-use borrow.Author.Tests.{eqb-true, eqb-false, eq-eqb, ne_eqb, not-true, not-false}
+use borrow.Author.Tests.{eq-eqb, ne_eqb, not-true, not-false}
 use Rattle.domain_rules.specs.Scan.{all_to}
 use Rattle.domain_rules.proofs.All.{both, all_step, all_fails, all_none, all_more, isnt_true}
-use Rattle.bits.specs.Bit.{bit_of, is_set, set_bit, set_same, set_other, zero_bit}
+use Rattle.bits.specs.Bit.{bit_of, is_set, set_bit, set_same, set_other}
 use Rattle.userspace.specs.Userspace.{THREADS}
 use Rattle.tables.specs.declared.Thread.{Thread}
 use Rattle.rules.specs.declared.Judged.{Judged}
 use Rattle.tables.specs.Table.{HANDLES, thread_at}
 use Rattle.rules.proofs.Rules.{live_handle}
-use Rattle.rules.specs.Rules.{is_live, live_to, thread_ok, unserved, thread_sound, is_served, serving, failing, judged_threads}
-use Rattle.rules.proofs.Bits.{one_set, set_one, zero_unset, live_none, live_hit, live_miss}
+use Rattle.rules.specs.Rules.{live_to, thread_ok, unserved, thread_sound, is_served, serving, failing, judged_threads}
+use Rattle.rules.proofs.Bits.{one_set, zero_unset, live_none, live_hit, live_miss}
 
 and_true_right : (b : Bool) → (b && true) ≡ b
 and_true_right true = refl

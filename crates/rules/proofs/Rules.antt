@@ -1,28 +1,28 @@
 -- The rules in plain statements and the test that computes say the same, both ways.
-use Prim.Native.Nat.{ℕ, zero, suc, ◌+◌, ◌*◌, ◌/◌, ◌%◌, ◌≤◌, ◌<◌}
-use native.Mathlib.Decide.{ℕ_discrete, dec_lt}
+use Prim.Native.Nat.{ℕ, ◌+◌, ◌*◌, ◌/◌, ◌%◌, ◌≤◌, ◌<◌}
+use native.Mathlib.Decide.{dec_lt}
 use native.Mathlib.Omega.{arith}
 use mathlib.Core.Path.{◌≡◌, refl, sym, ap, ◌∙◌}
-use mathlib.Core.Logic.{◌≢◌, ◌⊎◌, inl, inr, ⊎_elim}
+use mathlib.Core.Logic.{◌⊎◌, inl, inr, ⊎_elim}
 use mathlib.Core.Bool.{Bool, true, false, cond, not, ◌&&◌, ◌||◌, true≢false, false≢true}
-use mathlib.Core.List.{List, []}
+use mathlib.Core.List.{List}
 use lib.Bits.{bit_and}
 use lib.Dec.{eqb, ltb, leb}
 use lib.ListN.{length, get_or}
 use borrow.Author.Tests.{eqb-true, eqb-false, eq-eqb, ne_eqb, ltb-true, lt-ltb, leb-true, le-leb, not-true}
 use Rattle.domain_rules.specs.Scan.{all_to}
 use Rattle.mem_domain.specs.Domain.{slots as SLOTS}
-use Rattle.domain_rules.specs.Sound.{SlotsKeep, slots_sound, domain_sound}
-use Rattle.domain_rules.proofs.All.{both_true, both, either_true, or_left, or_right, isnt_true, all_at, all_from}
+use Rattle.domain_rules.specs.Sound.{slots_sound, domain_sound}
+use Rattle.domain_rules.proofs.All.{both_true, both, either_true, or_left, or_right, all_at, all_from}
 use Rattle.domain_rules.proofs.Sound.{slots_keep, slots_sound_lem, counted_sound}
 use Rattle.bits.specs.Bit.{is_set}
 use Rattle.userspace.specs.Userspace.{THREADS}
 use Rattle.userspace.specs.declared.KernelObject.{KernelObject}
 use Rattle.tables.specs.declared.Thread.{Thread}
-use Rattle.tables.specs.Tabulate.{tabulate, length_tabulate}
+use Rattle.tables.specs.Tabulate.{length_tabulate}
 use Rattle.tables.specs.Table.{HANDLES, DOMAINS, no_object, nobody, object_of, object_at, thread_at, partitions_at, domain_at}
 use Rattle.tables.specs.Laws.{object_out, thread_out}
-use Rattle.tables.specs.State.{State, state_of, objects_of, threads_of, domains_of, object, thread, domain, object_of_lem, thread_of_lem, domain_of_lem, Fit}
+use Rattle.tables.specs.State.{state_of, objects_of, threads_of, domains_of, object, thread, domain, object_of_lem, thread_of_lem, domain_of_lem}
 use Rattle.rules.specs.Rules.{is_live, Keeps, Sound, live_to, object_ok, object_at_ok, thread_ok, unserved, thread_sound, domains_sound, keeps_test}
 use Rattle.rules.proofs.Bits.{within_says, within_from, zero_unset, live_says, live_has}
 

@@ -1,7 +1,7 @@
 -- A state as records: what stands above `tables` speaks of these three lists. `state_of` is the picture of three tables of numbers, `flat..` the way back;
 -- on tables of the right lengths whose heads are two bytes nothing is lost either way (docs/SPEC.md, 5.15 to 5.19).
-use Rattle.std.specs.Prelude.{ℕ, zero, suc, ◌+◌, ◌*◌, ◌/◌, ◌%◌, ◌≤◌, ◌<◌, ◌≡◌, refl, ◌≢◌, List, [], ◌∷◌, ◌++◌, length, get_or, set}
-use Rattle.std.proofs.Common.{not-suc-le-zero, sym, ◌∙◌, arith}
+use Rattle.std.specs.Prelude.{ℕ, zero, suc, ◌+◌, ◌*◌, ◌/◌, ◌%◌, ◌<◌, ◌≡◌, refl, List, [], ◌∷◌, ◌++◌, length, get_or, set}
+use Rattle.std.proofs.Common.{sym, ◌∙◌, arith}
 use Rattle.std.proofs.Math.Decide.{dec_lt}
 use Rattle.std.proofs.Math.Path.{ap}
 use Rattle.mem_domain.specs.Domain.{slots as SLOTS}

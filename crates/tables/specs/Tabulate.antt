@@ -1,6 +1,6 @@
 -- The list of f 0 .. f (n - 1): how a table of records is read off a table of numbers. Assumes nothing.
 use Prim.Native.Nat.{ℕ, zero, suc, ◌+◌, ◌*◌, ◌≤◌, ◌<◌, suc-le-suc}
-use Rattle.std.proofs.Common.{le_of_suc-le-suc, not-suc-le-zero, zero-lt-suc, zero-add, suc-add, add_comm, mul-zero, mul-suc, sym, ◌∙◌, add-one, arith, length-set, ext_get_or, get_or-set_same, get_or-set_other}
+use Rattle.std.proofs.Common.{le_of_suc-le-suc, not-suc-le-zero, zero-lt-suc, zero-add, suc-add, add_comm, mul-zero, mul-suc, sym, ◌∙◌, arith, length-set, ext_get_or, get_or-set_same, get_or-set_other}
 use Rattle.std.proofs.Math.Decide.{ℕ_discrete}
 use Rattle.std.specs.Prelude.{◌≡◌, ◌≢◌, length, get_or, set}
 use Rattle.std.proofs.Math.Path.{refl, ap}

@@ -1,6 +1,6 @@
 -- Numbers and words as ASCII bytes, and what it means to put them into a lent buffer.
 use Rattle.std.specs.Prelude.{ℕ, zero, suc, ◌+◌, ◌/◌, ◌%◌, max, ◌≡◌, cond, List, [], ◌∷◌, ◌++◌, ltb, leb, length}
-use Prim.Native.Char.{Char, code}
+use Prim.Native.Char.{code}
 use Prim.Native.String.{String, [] as empty, ◌∷◌ as ◌then◌}
 use Rattle.std.proofs.lemmas.List.Edits.{sets}
 

@@ -3,55 +3,55 @@
 #![tactic(auto)]
 
 use answer::Named;
-use libc::STDOUT_FILENO;
+use std::io;
 
-fn main() {
+fn main(rt: HostRuntime) -> io::Result<()> {
     let mut n: u32 = 0;
     while n < 15 {
-        line(n);
+        line(&rt, n)?;
         n += 1;
     }
-    line(4294967295);
+    line(&rt, 4294967295)
 }
 
-fn line(n: u32) {
-    print(n);
-    word(b" ");
-    again(n);
-    word(b" ");
+fn line(rt: &impl Print, n: u32) -> io::Result<()> {
+    print(rt, n)?;
+    word(rt, " ")?;
+    again(rt, n)?;
+    word(rt, " ")?;
     let e = answer::to_errno(n);
-    print(e.code);
-    word(b" ");
-    signed(e.value);
-    word(b"\n");
+    print(rt, e.code)?;
+    word(rt, " ")?;
+    signed(rt, e.value)?;
+    word(rt, "\n")
 }
 
 // The number of the name that n has.
-fn again(n: u32) {
+fn again(rt: &impl Print, n: u32) -> io::Result<()> {
     match answer::code_of(n) {
-        Named::Is(c) => print(answer::number(c)),
-        Named::Nothing => word(b"-"),
+        Named::Is(c) => print(rt, answer::number(c)),
+        Named::Nothing => word(rt, "-"),
     }
 }
 
-fn print(n: u32) {
-    io::print_decimal(STDOUT_FILENO, n as u64);
+fn print(rt: &impl Print, n: u32) -> io::Result<()> {
+    rt.print(n)
 }
 
 // Upstream's values are few: each is told by comparing, so that no signed arithmetic stands between it and the page.
-fn signed(v: i32) {
+fn signed(rt: &impl Print, v: i32) -> io::Result<()> {
     match v {
-        0 => word(b"0"),
-        -22 => word(b"-22"),
-        -1 => word(b"-1"),
-        -9 => word(b"-9"),
-        -112 => word(b"-112"),
-        -28 => word(b"-28"),
-        -2 => word(b"-2"),
-        _ => word(b"another value"),
+        0 => word(rt, "0"),
+        -22 => word(rt, "-22"),
+        -1 => word(rt, "-1"),
+        -9 => word(rt, "-9"),
+        -112 => word(rt, "-112"),
+        -28 => word(rt, "-28"),
+        -2 => word(rt, "-2"),
+        _ => word(rt, "another value"),
     }
 }
 
-fn word(text: &[u8]) {
-    io::write_all(STDOUT_FILENO, text);
+fn word(rt: &impl Print, text: &str) -> io::Result<()> {
+    rt.print(text)
 }

@@ -4,9 +4,11 @@
 // a log: x has how many bytes and how many numbers of `out`, y and z have how much of each table is lent. tests/calls/cases.py makes the list.
 #![tactic(auto)]
 
-ghost use Rattle.std.specs.Prelude.{◌<◌, ◌≤◌, length};
+ghost use Rattle.std.specs.Prelude.{◌<◌, ◌≤◌, length, IfOk};
+ghost use Rattle.std.specs.Io.{ReadsAtMost};
 
-use libc::STDOUT_FILENO;
+use std::io;
+use std::io::Read;
 
 // The most steps that are read.
 const STEPS: u32 = 1000000;
@@ -19,43 +21,56 @@ const BASE: u64 = 31337;
 const HALF: u64 = 4294967296;
 
 // The tables have room for more than a state has, so that longer ones can be lent.
-fn main() {
+fn main(rt: HostRuntime) -> io::Result<()> {
     let mut objects = [0u64; 520];
     let mut threads = [0u32; 200];
     let mut slots = [0u32; 392];
     let mut out = [0u32; 256];
-    let mut bytes = io::buffer();
-    every(&mut objects, &mut threads, &mut slots, &mut out, &mut bytes);
+    let mut bytes = [0u8; 4096];
+    every(
+        &rt,
+        &mut rt.stdin(),
+        &mut objects,
+        &mut threads,
+        &mut slots,
+        &mut out,
+        &mut bytes,
+    )
 }
 
 fn every(
+    rt: &impl Print,
+    from: &mut impl Read,
     objects: &mut [u64],
     threads: &mut [u32],
     slots: &mut [u32],
     out: &mut [u32],
     bytes: &mut [u8],
-) {
+) -> io::Result<()> {
     let mut left = STEPS;
     while left > 0 {
-        if !one(objects, threads, slots, out, bytes) {
-            return;
+        if !one(rt, from, objects, threads, slots, out, bytes)? {
+            break;
         }
         left -= 1;
     }
+    Ok(())
 }
 
 // One step, where there is a whole one.
 fn one(
+    rt: &impl Print,
+    from: &mut impl Read,
     objects: &mut [u64],
     threads: &mut [u32],
     slots: &mut [u32],
     out: &mut [u32],
     bytes: &mut [u8],
-) -> bool {
+) -> io::Result<bool> {
     let mut head = [0u8; 16];
-    let n = io::read_full(0, &mut head);
+    let n = read_full(from, &mut head)?;
     if n < 16 {
-        return false;
+        return Ok(false);
     }
     let x = number(&head, 4);
     let y = number(&head, 8);
@@ -65,11 +80,26 @@ fn one(
         1 => set_number(threads, x, y),
         2 => set_number(slots, x, y),
         3 => set_number(out, x, y),
-        4 => call(objects, threads, slots, bytes, x, y, z),
-        5 => run(objects, threads, slots, out, bytes, x, y, z),
-        _ => word(b"?\n"),
+        4 => call(rt, from, objects, threads, slots, bytes, x, y, z)?,
+        5 => run(rt, from, objects, threads, slots, out, bytes, x, y, z)?,
+        _ => word(rt, "?\n")?,
     }
-    true
+    Ok(true)
+}
+
+// Reads until `into` is full or the input ends, and answers how many bytes it put at its start.
+fn read_full(from: &mut impl Read, into: &mut [u8]) -> io::Result<usize>
+    ensures { ReadsAtMost result into.new }
+{
+    let mut done = 0;
+    while done < into.len() {
+        let n = from.read(&mut into[done..])?;
+        if n == 0 {
+            break;
+        }
+        done += n;
+    }
+    Ok(done)
 }
 
 fn set_object(objects: &mut [u64], x: u32, y: u32, z: u32) {
@@ -87,15 +117,17 @@ fn set_number(xs: &mut [u32], x: u32, y: u32) {
 }
 
 // The bytes of a call or of a log, from what follows the step.
-fn listen(bytes: &mut [u8], x: u32) -> usize
-    ensures { result ≤ length bytes.old }
+fn listen(from: &mut impl Read, bytes: &mut [u8], x: u32) -> io::Result<usize>
+    ensures { IfOk result (λ n. n ≤ length bytes.old) }
 {
     let n = least(x % 65536, bytes.len());
-    io::read_full(0, &mut bytes[..n]);
-    n
+    read_full(from, &mut bytes[..n])?;
+    Ok(n)
 }
 
 fn call(
+    rt: &impl Print,
+    from: &mut impl Read,
     objects: &mut [u64],
     threads: &mut [u32],
     slots: &mut [u32],
@@ -103,8 +135,8 @@ fn call(
     x: u32,
     y: u32,
     z: u32,
-) {
-    let n = listen(bytes, x);
+) -> io::Result<()> {
+    let n = listen(from, bytes, x)?;
     let o = least(y % 65536, objects.len());
     let t = least(y / 65536, threads.len());
     let s = least(z, slots.len());
@@ -114,12 +146,14 @@ fn call(
         &mut slots[..s],
         &bytes[..n],
     );
-    word(b"call ");
-    answered(r.code, r.value as u64, state(objects, threads, slots));
-    word(b"\n");
+    word(rt, "call ")?;
+    answered(rt, r.code, r.value as u64, state(objects, threads, slots))?;
+    word(rt, "\n")
 }
 
 fn run(
+    rt: &impl Print,
+    from: &mut impl Read,
     objects: &mut [u64],
     threads: &mut [u32],
     slots: &mut [u32],
@@ -128,8 +162,8 @@ fn run(
     x: u32,
     y: u32,
     z: u32,
-) {
-    let n = listen(bytes, x);
+) -> io::Result<()> {
+    let n = listen(from, bytes, x)?;
     let m = least(x / 65536, out.len());
     let o = least(y % 65536, objects.len());
     let t = least(y / 65536, threads.len());
@@ -141,22 +175,22 @@ fn run(
         &bytes[..n],
         &mut out[..m],
     );
-    word(b"run ");
-    answered(r.code, r.answers as u64, state(objects, threads, slots));
-    lent(out, m);
+    word(rt, "run ")?;
+    answered(rt, r.code, r.answers as u64, state(objects, threads, slots))?;
+    lent(rt, out, m)
 }
 
-fn answered(code: u32, value: u64, after: u64) {
-    figure(wider(code));
-    figure(value);
-    figure(after);
+fn answered(rt: &impl Print, code: u32, value: u64, after: u64) -> io::Result<()> {
+    figure(rt, wider(code))?;
+    figure(rt, value)?;
+    figure(rt, after)
 }
 
 // What a log has left in `out`: all of it as a digest, and the lent numbers.
-fn lent(out: &[u32], m: usize) {
-    figure(digest(out, 0));
-    numbers(out, m);
-    word(b"\n");
+fn lent(rt: &impl Print, out: &[u32], m: usize) -> io::Result<()> {
+    figure(rt, digest(out, 0))?;
+    numbers(rt, out, m)?;
+    word(rt, "\n")
 }
 
 // All numbers of the tables, those that were not lent too.
@@ -189,14 +223,15 @@ fn mix(d: u64, x: u64) -> u64 {
     (d % PRIME * BASE + x % HALF) % PRIME
 }
 
-fn numbers(out: &[u32], m: usize) {
+fn numbers(rt: &impl Print, out: &[u32], m: usize) -> io::Result<()> {
     let mut k = 0;
     while k < m {
         if k < out.len() {
-            figure(wider(out[k]));
+            figure(rt, wider(out[k]))?;
         }
         k += 1;
     }
+    Ok(())
 }
 
 fn least(n: u32, most: usize) -> usize
@@ -206,13 +241,13 @@ fn least(n: u32, most: usize) -> usize
     if m < most { m } else { most }
 }
 
-fn figure(n: u64) {
-    io::print_decimal(STDOUT_FILENO, n);
-    word(b" ");
+fn figure(rt: &impl Print, n: u64) -> io::Result<()> {
+    rt.print(n)?;
+    word(rt, " ")
 }
 
-fn word(text: &[u8]) {
-    io::write_all(STDOUT_FILENO, text);
+fn word(rt: &impl Print, text: &str) -> io::Result<()> {
+    rt.print(text)
 }
 
 fn wider(n: u32) -> u64

@@ -4,45 +4,65 @@
 #![tactic(auto)]
 
 ghost use Rattle.std.specs.Prelude.{◌<◌, ◌≤◌};
+ghost use Rattle.std.specs.Io.{ReadsAtMost};
 
-use libc::STDOUT_FILENO;
+use std::io;
+use std::io::Read;
 
 // The image's bytes stand in front, what is written behind them.
 const HALF: usize = 8192;
 
-fn main() {
-    let mut cases = io::large_buffer();
-    let n = io::read_full(0, &mut cases);
+fn main(rt: HostRuntime) -> io::Result<()> {
+    let mut cases = [0u8; 65536];
+    let n = read_full(&mut rt.stdin(), &mut cases)?;
     let mut objects = [0u64; 512];
     let mut threads = [0u32; 192];
     let mut slots = [0u32; 384];
     let mut bytes = [0u8; 16384];
     run(
+        &rt,
         &mut objects,
         &mut threads,
         &mut slots,
         &mut bytes,
         &cases,
         n,
-    );
+    )
+}
+
+// Reads until `into` is full or the input ends, and answers how many bytes it put at its start.
+fn read_full(from: &mut impl Read, into: &mut [u8]) -> io::Result<usize>
+    ensures { ReadsAtMost result into.new }
+{
+    let mut done = 0;
+    while done < into.len() {
+        let n = from.read(&mut into[done..])?;
+        if n == 0 {
+            break;
+        }
+        done += n;
+    }
+    Ok(done)
 }
 
 fn run(
+    rt: &impl Print,
     objects: &mut [u64],
     threads: &mut [u32],
     slots: &mut [u32],
     bytes: &mut [u8],
     cases: &[u8; 65536],
     n: usize,
-) {
+) -> io::Result<()> {
     let mut at = 0;
     while at < n {
         if at > 65520 {
-            return;
+            break;
         }
-        step(objects, threads, slots, bytes, cases, at);
+        step(rt, objects, threads, slots, bytes, cases, at)?;
         at += length_of(cases, at);
     }
+    Ok(())
 }
 
 // Step 0 has its bytes behind it, made up to whole steps.
@@ -58,13 +78,14 @@ fn length_of(cases: &[u8; 65536], at: usize) -> usize
 }
 
 fn step(
+    rt: &impl Print,
     objects: &mut [u64],
     threads: &mut [u32],
     slots: &mut [u32],
     bytes: &mut [u8],
     cases: &[u8; 65536],
     at: usize,
-)
+) -> io::Result<()>
     requires { at ≤ 65520 }
 {
     let op = number(cases, at);
@@ -73,13 +94,13 @@ fn step(
     let c = number(cases, at + 12);
     if op < 8 {
         put(bytes, cases, at + 16, op, a, b, c);
-        return;
+        return Ok(());
     }
     if op < 16 {
         number_step(objects, threads, slots, op, a, b, c);
-        return;
+        return Ok(());
     }
-    act(objects, threads, slots, bytes, op, a, b, c);
+    act(rt, objects, threads, slots, bytes, op, a, b, c)
 }
 
 // Steps 0 to 3 write bytes: a run from the list, one byte, a byte many times, what was written over the image.
@@ -170,6 +191,7 @@ fn set32(xs: &mut [u32], i: usize, v: u32) {
 }
 
 fn act(
+    rt: &impl Print,
     objects: &mut [u64],
     threads: &mut [u32],
     slots: &mut [u32],
@@ -178,28 +200,29 @@ fn act(
     a: u32,
     b: u32,
     c: u32,
-) {
+) -> io::Result<()> {
     let n = a as usize;
     match op {
-        16 => read(objects, threads, slots, bytes, n, b),
-        17 => write(objects, threads, slots, bytes, n),
-        18 => read_again(objects, threads, slots, bytes, a, b, c),
-        19 => write_again(objects, threads, slots, bytes, a, b, c),
-        _ => word(b"?\n"),
+        16 => read(rt, objects, threads, slots, bytes, n, b),
+        17 => write(rt, objects, threads, slots, bytes, n),
+        18 => read_again(rt, objects, threads, slots, bytes, a, b, c),
+        19 => write_again(rt, objects, threads, slots, bytes, a, b, c),
+        _ => word(rt, "?\n"),
     }
 }
 
 // Reads the first n bytes; the table that b names is lent one number short.
 fn read(
+    rt: &impl Print,
     objects: &mut [u64],
     threads: &mut [u32],
     slots: &mut [u32],
     bytes: &[u8],
     n: usize,
     b: u32,
-) {
+) -> io::Result<()> {
     if n > bytes.len() {
-        return;
+        return Ok(());
     }
     let x = short_of(objects.len(), b == 1);
     let y = short_of(threads.len(), b == 2);
@@ -212,17 +235,24 @@ fn read(
         &mut slots[..z],
         &mut code,
     );
-    report(code, rest, objects, threads, slots);
+    report(rt, code, rest, objects, threads, slots)
 }
 
-fn report(code: u32, rest: &[u8], objects: &[u64], threads: &[u32], slots: &[u32]) {
-    figure(code as u64);
-    figure(rest.len() as u64);
-    figure(first(rest));
-    figure(digest64(objects));
-    figure(digest32(threads));
-    figure(digest32(slots));
-    word(b"\n");
+fn report(
+    rt: &impl Print,
+    code: u32,
+    rest: &[u8],
+    objects: &[u64],
+    threads: &[u32],
+    slots: &[u32],
+) -> io::Result<()> {
+    figure(rt, code as u64)?;
+    figure(rt, rest.len() as u64)?;
+    figure(rt, first(rest))?;
+    figure(rt, digest64(objects))?;
+    figure(rt, digest32(threads))?;
+    figure(rt, digest32(slots))?;
+    word(rt, "\n")
 }
 
 fn short_of(n: usize, cut: bool) -> usize
@@ -241,23 +271,31 @@ fn first(xs: &[u8]) -> u64 {
 }
 
 // Writes the tables into n bytes.
-fn write(objects: &[u64], threads: &[u32], slots: &[u32], bytes: &mut [u8], n: usize) {
+fn write(
+    rt: &impl Print,
+    objects: &[u64],
+    threads: &[u32],
+    slots: &[u32],
+    bytes: &mut [u8],
+    n: usize,
+) -> io::Result<()> {
     if n > HALF {
-        return;
+        return Ok(());
     }
     let end = HALF + n;
     if end > bytes.len() {
-        return;
+        return Ok(());
     }
     let r = image_write::write(objects, threads, slots, &mut bytes[HALF..end]);
-    figure(r.code as u64);
-    figure(r.value as u64);
-    figure(digest8(bytes));
-    word(b"\n");
+    figure(rt, r.code as u64)?;
+    figure(rt, r.value as u64)?;
+    figure(rt, digest8(bytes))?;
+    word(rt, "\n")
 }
 
 // For the benchmark: reads a times; byte b is c in every other round, so that no round can be left out.
 fn read_again(
+    rt: &impl Print,
     objects: &mut [u64],
     threads: &mut [u32],
     slots: &mut [u32],
@@ -265,7 +303,7 @@ fn read_again(
     a: u32,
     b: u32,
     c: u32,
-) {
+) -> io::Result<()> {
     let mut good: u64 = 0;
     let mut k: u32 = 0;
     while k < a {
@@ -273,8 +311,8 @@ fn read_again(
         good = read_once(objects, threads, slots, bytes, good);
         k += 1;
     }
-    figure(good);
-    word(b"\n");
+    figure(rt, good)?;
+    word(rt, "\n")
 }
 
 fn read_once(
@@ -290,6 +328,7 @@ fn read_once(
 }
 
 fn write_again(
+    rt: &impl Print,
     objects: &mut [u64],
     threads: &[u32],
     slots: &[u32],
@@ -297,7 +336,7 @@ fn write_again(
     a: u32,
     b: u32,
     c: u32,
-) {
+) -> io::Result<()> {
     let mut good: u64 = 0;
     let mut k: u32 = 0;
     while k < a {
@@ -305,8 +344,8 @@ fn write_again(
         good = write_once(objects, threads, slots, bytes, good);
         k += 1;
     }
-    figure(good);
-    word(b"\n");
+    figure(rt, good)?;
+    word(rt, "\n")
 }
 
 fn write_once(objects: &[u64], threads: &[u32], slots: &[u32], bytes: &mut [u8], good: u64) -> u64 {
@@ -364,13 +403,13 @@ fn digest8(xs: &[u8]) -> u64 {
     h
 }
 
-fn figure(n: u64) {
-    io::print_decimal(STDOUT_FILENO, n);
-    word(b" ");
+fn figure(rt: &impl Print, n: u64) -> io::Result<()> {
+    rt.print(n)?;
+    word(rt, " ")
 }
 
-fn word(text: &[u8]) {
-    io::write_all(STDOUT_FILENO, text);
+fn word(rt: &impl Print, text: &str) -> io::Result<()> {
+    rt.print(text)
 }
 
 fn wider(n: u32) -> u64

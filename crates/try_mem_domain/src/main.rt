@@ -3,29 +3,47 @@
 #![tactic(auto)]
 
 ghost use Rattle.std.specs.Prelude.{◌<◌};
+ghost use Rattle.std.specs.Io.{ReadsAtMost};
 
-use libc::STDOUT_FILENO;
 use mem_domain::{Changed, MemDomain};
 use mem_partition::MemPartition;
+use std::io;
+use std::io::Read;
 
-fn main() {
-    let mut cases = io::large_buffer();
-    let n = io::read_full(0, &mut cases);
+fn main(rt: HostRuntime) -> io::Result<()> {
+    let mut cases = [0u8; 65536];
+    let n = read_full(&mut rt.stdin(), &mut cases)?;
     let mut d = MemDomain::init();
     let mut at = 0;
     while at < n {
-        d = step(d, &cases, at);
+        d = step(&rt, d, &cases, at)?;
         if at > 65516 {
-            return;
+            break;
         }
         at += 20;
     }
+    Ok(())
+}
+
+// Reads until `into` is full or the input ends, and answers how many bytes it put at its start.
+fn read_full(from: &mut impl Read, into: &mut [u8]) -> io::Result<usize>
+    ensures { ReadsAtMost result into.new }
+{
+    let mut done = 0;
+    while done < into.len() {
+        let n = from.read(&mut into[done..])?;
+        if n == 0 {
+            break;
+        }
+        done += n;
+    }
+    Ok(done)
 }
 
 // One case. Steps 1 and 2 write into the record itself, so that any record can be tried, unsound ones too.
-fn step(d: MemDomain, cases: &[u8; 65536], at: usize) -> MemDomain {
+fn step(rt: &impl Print, d: MemDomain, cases: &[u8; 65536], at: usize) -> io::Result<MemDomain> {
     if at > 65516 {
-        return d;
+        return Ok(d);
     }
     let op = number(cases, at);
     let a = number(cases, at + 4);
@@ -33,22 +51,22 @@ fn step(d: MemDomain, cases: &[u8; 65536], at: usize) -> MemDomain {
     let c = number(cases, at + 12);
     let e = number(cases, at + 16);
     match op {
-        0 => made(),
-        1 => with_slot(d, a, part(b, c, e)),
-        2 => with_count(d, a),
-        3 => changed(b"add", d.add_partition(part(a, b, c))),
-        4 => changed(b"remove", d.remove_partition(a, b)),
-        5 => asked(d, a),
-        6 => windows(d, part(a, b, 0), part(c, e, 0)),
-        _ => d,
+        0 => made(rt),
+        1 => Ok(with_slot(d, a, part(b, c, e))),
+        2 => Ok(with_count(d, a)),
+        3 => changed(rt, "add", d.add_partition(part(a, b, c))),
+        4 => changed(rt, "remove", d.remove_partition(a, b)),
+        5 => asked(rt, d, a),
+        6 => windows(rt, d, part(a, b, 0), part(c, e, 0)),
+        _ => Ok(d),
     }
 }
 
-fn made() -> MemDomain {
-    word(b"init ");
+fn made(rt: &impl Print) -> io::Result<MemDomain> {
+    word(rt, "init ")?;
     let d = MemDomain::init();
-    state(d);
-    d
+    state(rt, d)?;
+    Ok(d)
 }
 
 fn with_slot(d: MemDomain, a: u32, p: MemPartition) -> MemDomain {
@@ -66,87 +84,91 @@ fn with_count(d: MemDomain, a: u32) -> MemDomain {
     next
 }
 
-fn changed(name: &[u8], r: Changed) -> MemDomain {
-    word(name);
-    word(b" ");
-    figure(r.code);
-    figure(r.value);
+fn changed(rt: &impl Print, name: &str, r: Changed) -> io::Result<MemDomain> {
+    word(rt, name)?;
+    word(rt, " ")?;
+    figure(rt, r.code)?;
+    figure(rt, r.value)?;
     let d = r.domain;
-    state(d);
-    d
+    state(rt, d)?;
+    Ok(d)
 }
 
 // Every question that a domain answers, with a as slot and as address.
-fn asked(d: MemDomain, a: u32) -> MemDomain {
-    word(b"ask ");
-    figure(d.num_partitions_get());
-    truth(d.has_free_slot());
-    truth(d.contains_addr(a));
+fn asked(rt: &impl Print, d: MemDomain, a: u32) -> io::Result<MemDomain> {
+    word(rt, "ask ")?;
+    figure(rt, d.num_partitions_get())?;
+    truth(rt, d.has_free_slot())?;
+    truth(rt, d.contains_addr(a))?;
     let g = d.partition_get(a);
-    figure(g.code);
-    figure(g.start);
-    figure(g.size);
-    figure(g.attr);
-    word(b"\n");
-    d
+    figure(rt, g.code)?;
+    figure(rt, g.start)?;
+    figure(rt, g.size)?;
+    figure(rt, g.attr)?;
+    word(rt, "\n")?;
+    Ok(d)
 }
 
 // Every question that windows answer, by the methods and by the free functions.
-fn windows(d: MemDomain, p: MemPartition, q: MemPartition) -> MemDomain {
-    word(b"windows ");
-    io::print_decimal(STDOUT_FILENO, p.end_u64());
-    word(b" ");
-    truth(p.is_valid());
-    truth(mem_partition::partition_valid_decide(p.start, p.size));
-    truth(p.overlaps(q));
-    truth(mem_partition::partitions_overlap_decide(p.start, p.size, q.start, q.size));
-    word(b"\n");
-    d
+fn windows(
+    rt: &impl Print,
+    d: MemDomain,
+    p: MemPartition,
+    q: MemPartition,
+) -> io::Result<MemDomain> {
+    word(rt, "windows ")?;
+    rt.print(p.end_u64())?;
+    word(rt, " ")?;
+    truth(rt, p.is_valid())?;
+    truth(rt, mem_partition::partition_valid_decide(p.start, p.size))?;
+    truth(rt, p.overlaps(q))?;
+    truth(
+        rt,
+        mem_partition::partitions_overlap_decide(p.start, p.size, q.start, q.size),
+    )?;
+    word(rt, "\n")?;
+    Ok(d)
 }
 
 // The count, and each slot that is not all zero, by its number.
-fn state(d: MemDomain) {
-    figure(d.num_partitions);
+fn state(rt: &impl Print, d: MemDomain) -> io::Result<()> {
+    figure(rt, d.num_partitions)?;
     let mut k = 0;
     while k < 16 {
         let p = d.partitions[k];
-        slot(k, p);
+        slot(rt, k, p)?;
         k += 1;
     }
-    word(b"\n");
+    word(rt, "\n")
 }
 
-fn slot(k: usize, p: MemPartition) {
+fn slot(rt: &impl Print, k: usize, p: MemPartition) -> io::Result<()> {
     if p.start == 0 && p.size == 0 && p.attr == 0 {
-        return;
+        return Ok(());
     }
-    word(b"| ");
-    io::print_decimal(STDOUT_FILENO, k as u64);
-    word(b" ");
-    figure(p.start);
-    figure(p.size);
-    figure(p.attr);
+    word(rt, "| ")?;
+    rt.print(k)?;
+    word(rt, " ")?;
+    figure(rt, p.start)?;
+    figure(rt, p.size)?;
+    figure(rt, p.attr)
 }
 
 fn part(start: u32, size: u32, attr: u32) -> MemPartition {
     MemPartition { start, size, attr }
 }
 
-fn truth(b: bool) {
-    if b {
-        word(b"yes ");
-    } else {
-        word(b"no ");
-    }
+fn truth(rt: &impl Print, b: bool) -> io::Result<()> {
+    if b { word(rt, "yes ") } else { word(rt, "no ") }
 }
 
-fn figure(n: u32) {
-    io::print_decimal(STDOUT_FILENO, n as u64);
-    word(b" ");
+fn figure(rt: &impl Print, n: u32) -> io::Result<()> {
+    rt.print(n)?;
+    word(rt, " ")
 }
 
-fn word(text: &[u8]) {
-    io::write_all(STDOUT_FILENO, text);
+fn word(rt: &impl Print, text: &str) -> io::Result<()> {
+    rt.print(text)
 }
 
 // The little-endian word at a place of the list, and 0 past its end.

@@ -4,62 +4,87 @@
 #![tactic(auto)]
 
 ghost use Rattle.std.specs.Prelude.{◌<◌};
+ghost use Rattle.std.specs.Io.{ReadsAtMost};
 
 use answer::Answer;
-use libc::STDOUT_FILENO;
 use mem_domain::MemDomain;
 use mem_partition::MemPartition;
+use std::io;
+use std::io::Read;
 
 // What a case has in bytes, and the most cases that are read.
 const CASE: usize = 344;
 
 const CASES: u32 = 1000000;
 
-fn main() {
+fn main(rt: HostRuntime) -> io::Result<()> {
+    let mut from = rt.stdin();
     let mut left = CASES;
     while left > 0 {
-        if !one() {
-            return;
+        if !one(&rt, &mut from)? {
+            break;
         }
         left -= 1;
     }
+    Ok(())
 }
 
 // One case, where there is a whole one.
-fn one() -> bool {
+fn one(rt: &impl Print, from: &mut impl Read) -> io::Result<bool> {
     let mut case = [0u8; CASE];
-    let n = io::read_full(0, &mut case);
+    let n = read_full(from, &mut case)?;
     if n < CASE {
-        return false;
+        return Ok(false);
     }
     let lent = number(&case, 4) as usize;
     if lent > 34 {
-        return false;
+        return Ok(false);
     }
     let op = number(&case, 0);
     let n = number(&case, 8);
     if op == 1 {
-        check(domain(&case), words(&case), lent);
-        return true;
+        check(rt, domain(&case), words(&case), lent)?;
+        return Ok(true);
     }
     if op == 2 {
-        plan(domain(&case), n, words(&case), lent);
-        return true;
+        plan(rt, domain(&case), n, words(&case), lent)?;
+        return Ok(true);
     }
-    again(domain(&case), words(&case), lent, n);
-    true
+    again(rt, domain(&case), words(&case), lent, n)?;
+    Ok(true)
 }
 
-fn check(d: MemDomain, words: [u32; 34], lent: usize)
+// Reads until `into` is full or the input ends, and answers how many bytes it put at its start.
+fn read_full(from: &mut impl Read, into: &mut [u8]) -> io::Result<usize>
+    ensures { ReadsAtMost result into.new }
+{
+    let mut done = 0;
+    while done < into.len() {
+        let n = from.read(&mut into[done..])?;
+        if n == 0 {
+            break;
+        }
+        done += n;
+    }
+    Ok(done)
+}
+
+fn check(rt: &impl Print, d: MemDomain, words: [u32; 34], lent: usize) -> io::Result<()>
     requires { lent < 35 }
 {
-    word(b"check ");
-    answered(mpu::check(d, &words[..lent]));
-    word(b"\n");
+    word(rt, "check ")?;
+    answered(rt, mpu::check(d, &words[..lent]))?;
+    word(rt, "\n")
 }
 
 // The same check a number of times. Each answer goes into the next round's plan, where an OK changes nothing, so that no round can be left out.
-fn again(d: MemDomain, words: [u32; 34], lent: usize, rounds: u32)
+fn again(
+    rt: &impl Print,
+    d: MemDomain,
+    words: [u32; 34],
+    lent: usize,
+    rounds: u32,
+) -> io::Result<()>
     requires { lent < 35 }
 {
     let mut w = words;
@@ -68,9 +93,9 @@ fn again(d: MemDomain, words: [u32; 34], lent: usize, rounds: u32)
         w[0] |= code_of(d, w, lent);
         left -= 1;
     }
-    word(b"again ");
-    figure(code_of(d, w, lent));
-    word(b"\n");
+    word(rt, "again ")?;
+    figure(rt, code_of(d, w, lent))?;
+    word(rt, "\n")
 }
 
 fn code_of(d: MemDomain, words: [u32; 34], lent: usize) -> u32
@@ -81,27 +106,34 @@ fn code_of(d: MemDomain, words: [u32; 34], lent: usize) -> u32
 }
 
 // The lent run is printed as it is afterwards, the words behind it too.
-fn plan(d: MemDomain, regions: u32, words: [u32; 34], lent: usize)
+fn plan(
+    rt: &impl Print,
+    d: MemDomain,
+    regions: u32,
+    words: [u32; 34],
+    lent: usize,
+) -> io::Result<()>
     requires { lent < 35 }
 {
     let mut out = words;
-    word(b"plan ");
-    answered(planner::plan(d, regions, &mut out[..lent]));
-    run(&out);
-    word(b"\n");
+    word(rt, "plan ")?;
+    answered(rt, planner::plan(d, regions, &mut out[..lent]))?;
+    run(rt, &out)?;
+    word(rt, "\n")
 }
 
-fn run(out: &[u32; 34]) {
+fn run(rt: &impl Print, out: &[u32; 34]) -> io::Result<()> {
     let mut k = 0;
     while k < 34 {
-        figure(out[k]);
+        figure(rt, out[k])?;
         k += 1;
     }
+    Ok(())
 }
 
-fn answered(r: Answer) {
-    figure(r.code);
-    figure(r.value);
+fn answered(rt: &impl Print, r: Answer) -> io::Result<()> {
+    figure(rt, r.code)?;
+    figure(rt, r.value)
 }
 
 fn domain(case: &[u8; 344]) -> MemDomain {
@@ -135,13 +167,13 @@ fn words(case: &[u8; 344]) -> [u32; 34] {
     w
 }
 
-fn figure(n: u32) {
-    io::print_decimal(STDOUT_FILENO, n as u64);
-    word(b" ");
+fn figure(rt: &impl Print, n: u32) -> io::Result<()> {
+    rt.print(n)?;
+    word(rt, " ")
 }
 
-fn word(text: &[u8]) {
-    io::write_all(STDOUT_FILENO, text);
+fn word(rt: &impl Print, text: &str) -> io::Result<()> {
+    rt.print(text)
 }
 
 // The little-endian word at a place of the case, and 0 past its end.

@@ -3,41 +3,67 @@
 #![tactic(auto)]
 
 ghost use Rattle.std.specs.Prelude.{◌+◌, ◌<◌, ◌≤◌};
+ghost use Rattle.std.specs.Io.{ReadsAtMost};
 
-use libc::STDOUT_FILENO;
 use mem_partition::MemPartition;
+use std::io;
+use std::io::Read;
 use tables::Thread;
 use userspace::KernelObject;
 
-fn main() {
-    let mut cases = io::large_buffer();
-    let n = io::read_full(0, &mut cases);
+fn main(rt: HostRuntime) -> io::Result<()> {
+    let mut cases = [0u8; 65536];
+    let n = read_full(&mut rt.stdin(), &mut cases)?;
     let mut objects = [0u64; 512];
     let mut threads = [0u32; 192];
     let mut slots = [0u32; 384];
-    run(&mut objects, &mut threads, &mut slots, &cases, n);
+    run(&rt, &mut objects, &mut threads, &mut slots, &cases, n)
 }
 
-fn run(objects: &mut [u64], threads: &mut [u32], slots: &mut [u32], cases: &[u8; 65536], n: usize) {
+// Reads until `into` is full or the input ends, and answers how many bytes it put at its start.
+fn read_full(from: &mut impl Read, into: &mut [u8]) -> io::Result<usize>
+    ensures { ReadsAtMost result into.new }
+{
+    let mut done = 0;
+    while done < into.len() {
+        let n = from.read(&mut into[done..])?;
+        if n == 0 {
+            break;
+        }
+        done += n;
+    }
+    Ok(done)
+}
+
+fn run(
+    rt: &impl Print,
+    objects: &mut [u64],
+    threads: &mut [u32],
+    slots: &mut [u32],
+    cases: &[u8; 65536],
+    n: usize,
+) -> io::Result<()> {
     let mut at = 0;
     while at < n {
-        step(objects, threads, slots, cases, at);
+        step(rt, objects, threads, slots, cases, at)?;
         if at > 65520 {
-            return;
+            break;
         }
         at += 16;
     }
+    Ok(())
 }
 
 fn step(
+    rt: &impl Print,
     objects: &mut [u64],
     threads: &mut [u32],
     slots: &mut [u32],
     cases: &[u8; 65536],
     at: usize,
-) {
+) -> io::Result<()> {
     if at > 65520 {
-        return;
+        return Ok(());
     }
     let op = number(cases, at);
     let a = number(cases, at + 4);
@@ -47,18 +73,19 @@ fn step(
         0 => set_object(objects, a, b, c),
         1 => set_number(threads, a, b),
         2 => set_number(slots, a, b),
-        3 => judge(objects, threads, slots, a, b, c),
-        4 => show_object(objects, a),
-        5 => show_thread(threads, a),
-        6 => show_slot(slots, a, b),
-        7 => show_domain(slots, a),
+        3 => judge(rt, objects, threads, slots, a, b, c)?,
+        4 => show_object(rt, objects, a)?,
+        5 => show_thread(rt, threads, a)?,
+        6 => show_slot(rt, slots, a, b)?,
+        7 => show_domain(rt, slots, a)?,
         8 => store_object(objects, a, b, c),
         9 => store_thread(threads, a, b, c),
         10 => store_slot(slots, a, b, c),
         11 => move_domain(slots, a, b),
-        12 => again(objects, threads, slots, a, b, c),
-        _ => word(b"?\n"),
+        12 => again(rt, objects, threads, slots, a, b, c)?,
+        _ => word(rt, "?\n")?,
     }
+    Ok(())
 }
 
 // Steps 0 to 2 write numbers, so that any state can be tried, unsound ones too.
@@ -77,47 +104,56 @@ fn set_number(xs: &mut [u32], a: u32, b: u32) {
 }
 
 // Judges the first a, b and c numbers of the tables.
-fn judge(objects: &[u64], threads: &[u32], slots: &[u32], a: u32, b: u32, c: u32) {
+fn judge(
+    rt: &impl Print,
+    objects: &[u64],
+    threads: &[u32],
+    slots: &[u32],
+    a: u32,
+    b: u32,
+    c: u32,
+) -> io::Result<()> {
     let x = a as usize;
     let y = b as usize;
     let z = c as usize;
     if x <= objects.len() {
         if y <= threads.len() {
             if z <= slots.len() {
-                truth(rules::keeps(&objects[..x], &threads[..y], &slots[..z]));
+                truth(rt, rules::keeps(&objects[..x], &threads[..y], &slots[..z]))?;
             }
         }
     }
+    Ok(())
 }
 
-fn show_object(objects: &[u64], h: u32) {
+fn show_object(rt: &impl Print, objects: &[u64], h: u32) -> io::Result<()> {
     let o = object_table::load_object(objects, h);
-    figure(o.obj_type as u64);
-    figure(o.flags as u64);
-    figure(o.word);
-    word(b"\n");
+    figure(rt, o.obj_type as u64)?;
+    figure(rt, o.flags as u64)?;
+    figure(rt, o.word)?;
+    word(rt, "\n")
 }
 
-fn show_thread(threads: &[u32], t: u32) {
+fn show_thread(rt: &impl Print, threads: &[u32], t: u32) -> io::Result<()> {
     let r = tables::load_thread(threads, t);
-    figure(r.role as u64);
-    figure(r.domain as u64);
-    figure(r.handle as u64);
-    word(b"\n");
+    figure(rt, r.role as u64)?;
+    figure(rt, r.domain as u64)?;
+    figure(rt, r.handle as u64)?;
+    word(rt, "\n")
 }
 
-fn show_slot(slots: &[u32], d: u32, k: u32) {
+fn show_slot(rt: &impl Print, slots: &[u32], d: u32, k: u32) -> io::Result<()> {
     let p = tables::load_slot(slots, d, k);
-    figure(p.start as u64);
-    figure(p.size as u64);
-    figure(p.attr as u64);
-    word(b"\n");
+    figure(rt, p.start as u64)?;
+    figure(rt, p.size as u64)?;
+    figure(rt, p.attr as u64)?;
+    word(rt, "\n")
 }
 
-fn show_domain(slots: &[u32], d: u32) {
+fn show_domain(rt: &impl Print, slots: &[u32], d: u32) -> io::Result<()> {
     let m = tables::load_domain(slots, d);
-    figure(m.num_partitions as u64);
-    truth(domain_rules::is_sound(m));
+    figure(rt, m.num_partitions as u64)?;
+    truth(rt, domain_rules::is_sound(m))
 }
 
 fn store_object(objects: &mut [u64], h: u32, b: u32, c: u32) {
@@ -155,15 +191,23 @@ fn move_domain(slots: &mut [u32], a: u32, b: u32) {
 }
 
 // Judges the state a times, for the benchmark; number b of the objects is c in every other round, so that no round can be left out.
-fn again(objects: &mut [u64], threads: &[u32], slots: &[u32], a: u32, b: u32, c: u32) {
+fn again(
+    rt: &impl Print,
+    objects: &mut [u64],
+    threads: &[u32],
+    slots: &[u32],
+    a: u32,
+    b: u32,
+    c: u32,
+) -> io::Result<()> {
     let mut good: u64 = 0;
     let mut k: u32 = 0;
     while k < a {
         good = round(objects, threads, slots, b, every_other(k, c), good);
         k += 1;
     }
-    figure(good);
-    word(b"\n");
+    figure(rt, good)?;
+    word(rt, "\n")
 }
 
 fn every_other(k: u32, c: u32) -> u32 {
@@ -182,21 +226,21 @@ fn round(objects: &mut [u64], threads: &[u32], slots: &[u32], b: u32, c: u32, go
     good
 }
 
-fn truth(b: bool) {
+fn truth(rt: &impl Print, b: bool) -> io::Result<()> {
     if b {
-        word(b"yes\n");
+        word(rt, "yes\n")
     } else {
-        word(b"no\n");
+        word(rt, "no\n")
     }
 }
 
-fn figure(n: u64) {
-    io::print_decimal(STDOUT_FILENO, n);
-    word(b" ");
+fn figure(rt: &impl Print, n: u64) -> io::Result<()> {
+    rt.print(n)?;
+    word(rt, " ")
 }
 
-fn word(text: &[u8]) {
-    io::write_all(STDOUT_FILENO, text);
+fn word(rt: &impl Print, text: &str) -> io::Result<()> {
+    rt.print(text)
 }
 
 fn wider(n: u32) -> u64

@@ -3,29 +3,53 @@
 // out `stdout` by a model that keeps a list of 64 yes or no, as upstream does.
 #![tactic(auto)]
 
-use libc::STDOUT_FILENO;
+ghost use Rattle.std.specs.Io.{ReadsAtMost};
+
+use std::io;
+use std::io::Read;
 use userspace::{Changed, KernelObject};
 use userspace_decide::Validated;
 use userspace_names::{InitCheck, NamedCheck, NamedType};
 
-fn main() {
-    let mut cases = io::large_buffer();
-    let n = io::read_full(0, &mut cases);
+fn main(rt: HostRuntime) -> io::Result<()> {
+    let mut cases = [0u8; 65536];
+    let n = read_full(&mut rt.stdin(), &mut cases)?;
     let mut o = KernelObject::new(0);
     let mut at = 0;
     while at < 65536 {
         if n <= at {
-            return;
+            break;
         }
-        o = step(o, &cases, at);
+        o = step(&rt, o, &cases, at)?;
         at += 16;
     }
+    Ok(())
+}
+
+// Reads until `into` is full or the input ends, and answers how many bytes it put at its start.
+fn read_full(from: &mut impl Read, into: &mut [u8]) -> io::Result<usize>
+    ensures { ReadsAtMost result into.new }
+{
+    let mut done = 0;
+    while done < into.len() {
+        let n = from.read(&mut into[done..])?;
+        if n == 0 {
+            break;
+        }
+        done += n;
+    }
+    Ok(done)
 }
 
 // One case. Step 0 puts the record itself, so that any record can be tried, unsound ones too.
-fn step(o: KernelObject, cases: &[u8; 65536], at: usize) -> KernelObject {
+fn step(
+    rt: &impl Print,
+    o: KernelObject,
+    cases: &[u8; 65536],
+    at: usize,
+) -> io::Result<KernelObject> {
     if at > 65520 {
-        return o;
+        return Ok(o);
     }
     let op = byte(cases, at);
     let a = byte(cases, at + 1);
@@ -34,6 +58,7 @@ fn step(o: KernelObject, cases: &[u8; 65536], at: usize) -> KernelObject {
     let n = number(cases, at + 4);
     if op < 10 {
         return changes(
+            rt,
             o,
             op,
             a,
@@ -43,120 +68,135 @@ fn step(o: KernelObject, cases: &[u8; 65536], at: usize) -> KernelObject {
         );
     }
     match op {
-        10 => asks(o, n, a == 1),
-        11 => validates(o, a, n, b == 1, c),
-        12 => decides(a, b, c),
-        13 => names(n, c),
-        14 => constants(),
-        _ => word(b"?\n"),
+        10 => asks(rt, o, n, a == 1)?,
+        11 => validates(rt, o, a, n, b == 1, c)?,
+        12 => decides(rt, a, b, c)?,
+        13 => names(rt, n, c)?,
+        14 => constants(rt)?,
+        _ => word(rt, "?\n")?,
     }
-    o
+    Ok(o)
 }
 
-fn changes(o: KernelObject, op: u8, a: u8, b: u8, n: u32, w: u64) -> KernelObject {
+fn changes(
+    rt: &impl Print,
+    o: KernelObject,
+    op: u8,
+    a: u8,
+    b: u8,
+    n: u32,
+    w: u64,
+) -> io::Result<KernelObject> {
     match op {
-        0 => KernelObject {
+        0 => Ok(KernelObject {
             obj_type: a,
             flags: b,
             word: w,
-        },
-        1 => became(b"new ", KernelObject::new(a)),
-        2 => changed(b"grant ", o.grant_access(n)),
-        3 => changed(b"revoke ", o.revoke_access(n)),
-        4 => changed(b"clear-thread ", o.clear_thread_perm(n)),
-        5 => became(b"clear-all ", o.clear_all_perms()),
-        6 => became(b"init ", o.init_object()),
-        7 => became(b"uninit ", o.uninit_object()),
-        8 => changed(b"recycle ", o.recycle(n)),
-        _ => became(b"make-public ", o.make_public()),
+        }),
+        1 => became(rt, "new ", KernelObject::new(a)),
+        2 => changed(rt, "grant ", o.grant_access(n)),
+        3 => changed(rt, "revoke ", o.revoke_access(n)),
+        4 => changed(rt, "clear-thread ", o.clear_thread_perm(n)),
+        5 => became(rt, "clear-all ", o.clear_all_perms()),
+        6 => became(rt, "init ", o.init_object()),
+        7 => became(rt, "uninit ", o.uninit_object()),
+        8 => changed(rt, "recycle ", o.recycle(n)),
+        _ => became(rt, "make-public ", o.make_public()),
     }
 }
 
-fn changed(name: &[u8], r: Changed) -> KernelObject {
-    word(name);
-    figure(r.code);
-    figure(r.value);
+fn changed(rt: &impl Print, name: &str, r: Changed) -> io::Result<KernelObject> {
+    word(rt, name)?;
+    figure(rt, r.code)?;
+    figure(rt, r.value)?;
     let o = r.object;
-    became(b"", o)
+    became(rt, "", o)
 }
 
-fn became(name: &[u8], o: KernelObject) -> KernelObject {
-    word(name);
-    small(o.obj_type);
-    small(o.flags);
-    io::print_decimal(STDOUT_FILENO, o.word);
-    word(b"\n");
-    o
+fn became(rt: &impl Print, name: &str, o: KernelObject) -> io::Result<KernelObject> {
+    word(rt, name)?;
+    small(rt, o.obj_type)?;
+    small(rt, o.flags)?;
+    rt.print(o.word)?;
+    word(rt, "\n")?;
+    Ok(o)
 }
 
 // Every question that a record answers.
-fn asks(o: KernelObject, n: u32, supervisor: bool) {
-    word(b"ask ");
-    truth(o.check_access(n, supervisor));
-    truth(o.is_initialized());
-    truth(o.is_public());
-    truth(o.is_alloc());
-    truth(o.is_driver());
+fn asks(rt: &impl Print, o: KernelObject, n: u32, supervisor: bool) -> io::Result<()> {
+    word(rt, "ask ")?;
+    truth(rt, o.check_access(n, supervisor))?;
+    truth(rt, o.is_initialized())?;
+    truth(rt, o.is_public())?;
+    truth(rt, o.is_alloc())?;
+    truth(rt, o.is_driver())?;
     let r = o.has_perm(n);
-    figure(r.code);
-    figure(r.value);
-    small(o.obj_type_get());
-    word(b"\n");
+    figure(rt, r.code)?;
+    figure(rt, r.value)?;
+    small(rt, o.obj_type_get())?;
+    word(rt, "\n")
 }
 
-fn validates(o: KernelObject, a: u8, n: u32, supervisor: bool, c: u8) {
-    word(b"validate ");
+fn validates(
+    rt: &impl Print,
+    o: KernelObject,
+    a: u8,
+    n: u32,
+    supervisor: bool,
+    c: u8,
+) -> io::Result<()> {
+    word(rt, "validate ")?;
     match c {
-        0 => verdict(o.validate(a, n, supervisor, InitCheck::MustBeInit)),
-        1 => verdict(o.validate(a, n, supervisor, InitCheck::MustNotBeInit)),
-        _ => verdict(o.validate(a, n, supervisor, InitCheck::DontCare)),
+        0 => verdict(rt, o.validate(a, n, supervisor, InitCheck::MustBeInit))?,
+        1 => verdict(rt, o.validate(a, n, supervisor, InitCheck::MustNotBeInit))?,
+        _ => verdict(rt, o.validate(a, n, supervisor, InitCheck::DontCare))?,
     }
-    word(b"\n");
+    word(rt, "\n")
 }
 
 // The free functions: bits 0 to 2 of a are the yes or no, b the flags, c the mode.
-fn decides(a: u8, b: u8, c: u8) {
-    word(b"decide ");
+fn decides(rt: &impl Print, a: u8, b: u8, c: u8) -> io::Result<()> {
+    word(rt, "decide ")?;
     let x = a % 2 == 1;
     let y = a / 2 % 2 == 1;
     let z = a / 4 % 2 == 1;
-    truth(userspace_decide::access_decide(x, y));
-    verdict(userspace_decide::validate_decide(x, y, z, mode(c)));
-    small(userspace_decide::init_flags_decide(b));
-    small(userspace_decide::uninit_flags_decide(b));
-    small(userspace_decide::recycle_flags_decide(b));
-    small(userspace_decide::make_public_flags_decide(b));
-    word(b"\n");
+    truth(rt, userspace_decide::access_decide(x, y))?;
+    verdict(rt, userspace_decide::validate_decide(x, y, z, mode(c)))?;
+    small(rt, userspace_decide::init_flags_decide(b))?;
+    small(rt, userspace_decide::uninit_flags_decide(b))?;
+    small(rt, userspace_decide::recycle_flags_decide(b))?;
+    small(rt, userspace_decide::make_public_flags_decide(b))?;
+    word(rt, "\n")
 }
 
 // The number of the type that n names, and of the mode that c stands for.
-fn names(n: u32, c: u8) {
-    word(b"name ");
+fn names(rt: &impl Print, n: u32, c: u8) -> io::Result<()> {
+    word(rt, "name ")?;
     match userspace_names::obj_type_of(n) {
-        NamedType::Is(t) => small(userspace_names::obj_type_number(t)),
-        NamedType::Nothing => word(b"- "),
+        NamedType::Is(t) => small(rt, userspace_names::obj_type_number(t))?,
+        NamedType::Nothing => word(rt, "- ")?,
     }
     match userspace_names::init_check_of(wide_mode(c)) {
-        NamedCheck::Is(k) => signed(userspace_names::init_check_number(k)),
-        NamedCheck::Nothing => word(b"-"),
+        NamedCheck::Is(k) => signed(rt, userspace_names::init_check_number(k))?,
+        NamedCheck::Nothing => word(rt, "-")?,
     }
-    word(b"\n");
+    word(rt, "\n")
 }
 
-fn constants() {
-    word(b"constants ");
-    small(KernelObject::INITIALIZED);
-    small(KernelObject::PUBLIC);
-    small(KernelObject::ALLOC);
-    small(KernelObject::DRIVER);
-    figure(userspace::MAX_THREADS);
-    word(b"\n");
+fn constants(rt: &impl Print) -> io::Result<()> {
+    word(rt, "constants ")?;
+    small(rt, KernelObject::INITIALIZED)?;
+    small(rt, KernelObject::PUBLIC)?;
+    small(rt, KernelObject::ALLOC)?;
+    small(rt, KernelObject::DRIVER)?;
+    figure(rt, userspace::MAX_THREADS)?;
+    word(rt, "\n")
 }
 
-fn verdict(v: Validated) {
+fn verdict(rt: &impl Print, v: Validated) -> io::Result<()> {
     match v {
-        Validated::Ok => word(b"ok "),
-        Validated::Refused(n) => figure(n),
+        Validated::Ok => word(rt, "ok "),
+        Validated::Refused(n) => figure(rt, n),
     }
 }
 
@@ -185,34 +225,30 @@ fn wide_mode(c: u8) -> i32 {
     }
 }
 
-fn signed(v: i8) {
+fn signed(rt: &impl Print, v: i8) -> io::Result<()> {
     match v {
-        0 => word(b"0"),
-        -1 => word(b"-1"),
-        1 => word(b"1"),
-        _ => word(b"another value"),
+        0 => word(rt, "0"),
+        -1 => word(rt, "-1"),
+        1 => word(rt, "1"),
+        _ => word(rt, "another value"),
     }
 }
 
-fn truth(b: bool) {
-    if b {
-        word(b"yes ");
-    } else {
-        word(b"no ");
-    }
+fn truth(rt: &impl Print, b: bool) -> io::Result<()> {
+    if b { word(rt, "yes ") } else { word(rt, "no ") }
 }
 
-fn small(n: u8) {
-    figure(n as u32);
+fn small(rt: &impl Print, n: u8) -> io::Result<()> {
+    figure(rt, n as u32)
 }
 
-fn figure(n: u32) {
-    io::print_decimal(STDOUT_FILENO, n as u64);
-    word(b" ");
+fn figure(rt: &impl Print, n: u32) -> io::Result<()> {
+    rt.print(n)?;
+    word(rt, " ")
 }
 
-fn word(text: &[u8]) {
-    io::write_all(STDOUT_FILENO, text);
+fn word(rt: &impl Print, text: &str) -> io::Result<()> {
+    rt.print(text)
 }
 
 fn wide(low: u32, high: u32) -> u64 {

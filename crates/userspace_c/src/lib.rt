@@ -1,5 +1,6 @@
 // The permission leaf for C and Rust, over plain numbers: a record's type, flags and word stand with the caller, and what a call
-// changes is written where the caller says. Each function is the leaf's own, with the leaf's promise; nothing is decided here.
+// changes is written where the caller says. Each function is the leaf's own, with the leaf's promise; nothing is decided here. The crate
+// userspace_leaf_c exports each to C under its name.
 #![tactic(auto)]
 
 ghost use Rattle.std.specs.Prelude.{◌≡◌};
@@ -19,8 +20,7 @@ fn object(kind: u8, flags: u8, word: u64) -> KernelObject
     }
 }
 
-#[unsafe(no_mangle)]
-pub extern "C" fn userspace_grant(word: &mut u64, tid: u32) -> u32
+pub fn userspace_grant(word: &mut u64, tid: u32) -> u32
     ensures { Grants word.old tid result word.new }
 {
     let granted = object(0, 0, *word).grant_access(tid);
@@ -29,8 +29,7 @@ pub extern "C" fn userspace_grant(word: &mut u64, tid: u32) -> u32
     granted.code
 }
 
-#[unsafe(no_mangle)]
-pub extern "C" fn userspace_revoke(word: &mut u64, tid: u32) -> u32
+pub fn userspace_revoke(word: &mut u64, tid: u32) -> u32
     ensures { Revokes word.old tid result word.new }
 {
     let revoked = object(0, 0, *word).revoke_access(tid);
@@ -39,8 +38,7 @@ pub extern "C" fn userspace_revoke(word: &mut u64, tid: u32) -> u32
     revoked.code
 }
 
-#[unsafe(no_mangle)]
-pub extern "C" fn userspace_recycle(flags: &mut u8, word: &mut u64, tid: u32) -> u32
+pub fn userspace_recycle(flags: &mut u8, word: &mut u64, tid: u32) -> u32
     ensures { Recycles flags.old word.old tid result flags.new word.new }
 {
     let recycled = object(0, *flags, *word).recycle(tid);
@@ -50,8 +48,7 @@ pub extern "C" fn userspace_recycle(flags: &mut u8, word: &mut u64, tid: u32) ->
     recycled.code
 }
 
-#[unsafe(no_mangle)]
-pub extern "C" fn userspace_has_perm(word: u64, tid: u32, value: &mut u32) -> u32
+pub fn userspace_has_perm(word: u64, tid: u32, value: &mut u32) -> u32
     ensures { Queries word tid result value.new }
 {
     let told = object(0, 0, word).has_perm(tid);
@@ -59,16 +56,14 @@ pub extern "C" fn userspace_has_perm(word: u64, tid: u32, value: &mut u32) -> u3
     told.code
 }
 
-#[unsafe(no_mangle)]
-pub extern "C" fn userspace_check_access(flags: u8, word: u64, tid: u32, supervisor: bool) -> bool
+pub fn userspace_check_access(flags: u8, word: u64, tid: u32, supervisor: bool) -> bool
     ensures { result ≡ may_use flags word tid supervisor }
 {
     object(0, flags, word).check_access(tid, supervisor)
 }
 
 // A mode other than 0 and -1 means either, as validate_decide has it.
-#[unsafe(no_mangle)]
-pub extern "C" fn userspace_validate(
+pub fn userspace_validate(
     kind: u8,
     flags: u8,
     word: u64,

@@ -1,7 +1,5 @@
-use Rattle.answer.specs.Tests.{tests, via}
-use borrow.Author.Tests.{lt-ltb, le-ltb, le-leb, lt-leb, eq-eqb, ne_eqb}
-use Rattle.domain_rules.specs.Sound.{attr_ok, slot_ok, apart_of}
-use Rattle.mem_partition.specs.Partition.{holds}
+use Rattle.answer.specs.Tests.{tests}
+use Rattle.domain_rules.specs.Sound.{attr_ok}
 use Rattle.domain_rules.proofs.attr_ok.Goals as goal
 
 pub returns-in-1 : goal.returns-in-1

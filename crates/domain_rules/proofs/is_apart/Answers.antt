@@ -1,9 +1,6 @@
-use Rattle.answer.specs.Tests.{tests, via}
-use borrow.Author.Tests.{lt-ltb, le-ltb, le-leb, lt-leb, eq-eqb, ne_eqb}
-use Rattle.domain_rules.specs.Sound.{attr_ok, slot_ok, apart_of}
-use Rattle.mem_partition.specs.Partition.{holds}
-use borrow.Author.Rules.{rules}
-use Rattle.mem_partition.proofs.MemPartition.overlaps.Reads as overlaps-reads
+use Rattle.answer.specs.Tests.{tests}
+use borrow.Author.Tests.{ne_eqb}
+use Rattle.domain_rules.specs.Sound.{apart_of}
 use Rattle.domain_rules.proofs.is_apart.Goals as goal
 
 pub returns-then-p-eq0 : goal.returns-then-p-eq0

@@ -1,9 +1,6 @@
 use Rattle.answer.specs.Tests.{via}
 use Rattle.mem_domain.specs.Domain.{with_count}
 use Rattle.domain_rules.specs.Sound.{domain_sound}
-use borrow.Author.Rules.{rules}
-use Rattle.domain_rules.proofs.slots_sound.Reads as slots-sound-reads
-use Rattle.mem_domain.proofs.MemDomain.counted.Reads as counted-reads
 use Rattle.domain_rules.proofs.is_sound.Goals as goal
 
 pub returns-then-slots_sound : goal.returns-then-slots_sound

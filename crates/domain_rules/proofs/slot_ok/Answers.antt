@@ -1,10 +1,6 @@
 use Rattle.answer.specs.Tests.{tests, via}
-use borrow.Author.Tests.{lt-ltb, le-ltb, le-leb, lt-leb, eq-eqb, ne_eqb}
-use Rattle.domain_rules.specs.Sound.{attr_ok, slot_ok, apart_of}
-use Rattle.mem_partition.specs.Partition.{holds}
-use borrow.Author.Rules.{rules}
-use Rattle.mem_partition.proofs.MemPartition.is_valid.Reads as is-valid-reads
-use Rattle.domain_rules.proofs.attr_ok.Reads as attr-ok-reads
+use borrow.Author.Tests.{ne_eqb}
+use Rattle.domain_rules.specs.Sound.{slot_ok}
 use Rattle.domain_rules.proofs.slot_ok.Goals as goal
 
 pub returns-then-p-eq0-2 : goal.returns-then-p-eq0-2

@@ -1,11 +1,8 @@
-use mathlib.Core.Path.{sym, ◌∙◌}
+use mathlib.Core.Path.{sym}
 use Rattle.answer.specs.Tests.{via}
 use Rattle.domain_rules.specs.Sound.{slot_sound}
 use Rattle.domain_rules.proofs.Sound.{free_clear}
 use Rattle.mem_domain.specs.Domain.{slot_at}
-use borrow.Author.Rules.{rules}
-use Rattle.domain_rules.proofs.is_clear.Reads as is-clear-reads
-use Rattle.domain_rules.proofs.slot_ok.Reads as slot-ok-reads
 use Rattle.domain_rules.proofs.slot_sound.Goals as goal
 
 pub returns-then-p-eq0 : goal.returns-then-p-eq0

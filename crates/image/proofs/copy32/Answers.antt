@@ -1,9 +1,7 @@
 use mathlib.Core.Path.{◌≡◌, refl, sym, ◌∙◌}
-use Prim.Native.Nat.{◌-◌, ◌≤◌}
 use native.Mathlib.Omega.{arith}
-use lib.ListN.{length, drop, length-set}
-use lib.Seq.{sets, drop-length}
-use borrow.Author.Tests.{not-true, not-false}
+use lib.ListN.{length, length-set}
+use lib.Seq.{drop-length}
 use Rattle.image_write.proofs.Bytes.{copy_turn, sets_all}
 use Rattle.image.proofs.copy32.Goals as goal
 

@@ -1,10 +1,7 @@
-use mathlib.Core.Path.{◌≡◌, refl, sym, ◌∙◌}
+use mathlib.Core.Path.{◌≡◌}
 use Prim.Native.Nat.{◌-◌, ◌≤◌}
-use native.Mathlib.Omega.{arith}
-use lib.ListN.{length, drop, length-set}
-use lib.Seq.{sets, drop-length}
-use borrow.Author.Tests.{not-true, not-false}
-use Rattle.image_write.proofs.Bytes.{copy_turn, sets_all}
+use lib.ListN.{length, drop}
+use lib.Seq.{sets}
 use Rattle.image.proofs.copy64.Given as goal
 
 abbrev pub invariant-loop-i : goal.invariant-loop-i

@@ -3,7 +3,6 @@ use Rattle.image.specs.Read.{read_objects, read_threads, read_slots}
 use mathlib.Core.Path.{refl, ap, ◌∙◌}
 use native.Mathlib.Omega.{arith}
 use Rattle.image.proofs.Answers.{head_is}
-use borrow.Author.Rules.{rules}
 use Rattle.image.proofs.decode.Goals as goal
 
 pub get-m-requires : goal.get-m-requires

@@ -1,6 +1,5 @@
 use borrow.Author.Tests.{le-leb, lt-leb, eq-eqb, ne_eqb}
 use Rattle.image.specs.Read.{fields_ok}
-use borrow.Author.Rules.{rules}
 use Rattle.image.proofs.fields_ok.Goals as goal
 
 pub returns-then-m-gt-MOST_OBJECTS : goal.returns-then-m-gt-MOST_OBJECTS

@@ -1,10 +1,9 @@
 -- `img::get`: the invariant: r is the number of the bytes from k on. Assumes nothing.
 use mathlib.Core.Path.{◌≡◌, refl}
-use Prim.Native.Nat.{◌+◌, ◌-◌, ◌^◌, ◌≤◌, ◌<◌}
+use Prim.Native.Nat.{◌+◌, ◌-◌}
 use native.Mathlib.Omega.{arith}
 use native.Mathlib.Nat.{sub_self, sub-zero, add-zero}
-use borrow.Author.Rules.{rules}
-use Rattle.image_write.specs.Bytes.{value, le}
+use Rattle.image_write.specs.Bytes.{value}
 use Rattle.image.proofs.Turns.{get_turn, get_most, get_fits}
 use Rattle.image.proofs.get.Goals as goal
 

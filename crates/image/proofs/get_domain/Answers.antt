@@ -6,10 +6,9 @@ use Rattle.answer.specs.Stores.{cat}
 use Rattle.image_write.specs.Bytes.{le}
 use mathlib.Core.Path.{◌≡◌, refl, sym, ap, ◌∙◌}
 use mathlib.Core.List.{List, [], ◌∷◌}
-use Prim.Native.Nat.{ℕ, ◌*◌, ◌-◌, ◌≤◌}
+use Prim.Native.Nat.{ℕ, ◌*◌}
 use native.Mathlib.Omega.{arith}
-use lib.ListN.{length, set, length-set}
-use lib.Seq.{sets}
+use lib.ListN.{set, length-set}
 use Rattle.image.proofs.get_domain.Goals as goal
 
 pub loop-k-init : goal.loop-k-init

@@ -1,14 +1,9 @@
-use Rattle.image_write.proofs.Bytes.{cat_length}
-use Rattle.image.proofs.Turns.{cat_turn_1}
-use Rattle.image_write.proofs.Bytes.{sets_all}
-use Rattle.image.specs.Read.{domain_of}
 use Rattle.answer.specs.Stores.{cat}
 use Rattle.image_write.specs.Bytes.{le}
-use mathlib.Core.Path.{◌≡◌, refl, sym, ap, ◌∙◌}
-use mathlib.Core.List.{List, [], ◌∷◌}
+use mathlib.Core.Path.{◌≡◌}
+use mathlib.Core.List.{[], ◌∷◌}
 use Prim.Native.Nat.{ℕ, ◌*◌, ◌-◌, ◌≤◌}
-use native.Mathlib.Omega.{arith}
-use lib.ListN.{length, set, length-set}
+use lib.ListN.{length}
 use lib.Seq.{sets}
 use Rattle.image.proofs.get_domain.Given as goal
 

@@ -4,10 +4,10 @@ use Rattle.image_write.proofs.Bytes.{sets_all, part_length}
 use Rattle.image.specs.Read.{domain_in, domains_in}
 use Rattle.answer.specs.Stores.{cat}
 use mathlib.Core.Path.{◌≡◌, refl, sym, ap, ◌∙◌}
-use Prim.Native.Nat.{◌+◌, ◌*◌, ◌-◌, ◌≤◌}
+use Prim.Native.Nat.{◌+◌, ◌*◌, ◌≤◌}
 use native.Mathlib.Omega.{arith}
 use lib.ListN.{length}
-use lib.Seq.{sets, length-sets}
+use lib.Seq.{length-sets}
 use Rattle.image.proofs.get_domains.Goals as goal
 
 pub loop-d-init : goal.loop-d-init

@@ -1,13 +1,9 @@
-use Rattle.image_write.proofs.Bytes.{cat_length}
-use Rattle.image.proofs.Turns.{domain_length, domains_turn}
-use Rattle.image_write.proofs.Bytes.{sets_all, part_length}
-use Rattle.image.specs.Read.{domain_in, domains_in}
+use Rattle.image.specs.Read.{domain_in}
 use Rattle.answer.specs.Stores.{cat}
-use mathlib.Core.Path.{◌≡◌, refl, sym, ap, ◌∙◌}
-use Prim.Native.Nat.{◌+◌, ◌*◌, ◌-◌, ◌≤◌}
-use native.Mathlib.Omega.{arith}
+use mathlib.Core.Path.{◌≡◌}
+use Prim.Native.Nat.{◌-◌, ◌≤◌}
 use lib.ListN.{length}
-use lib.Seq.{sets, length-sets}
+use lib.Seq.{sets}
 use Rattle.image.proofs.get_domains.Given as goal
 
 abbrev pub invariant-loop-d : goal.invariant-loop-d

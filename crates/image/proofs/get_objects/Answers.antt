@@ -1,11 +1,8 @@
 use Rattle.image.proofs.Turns.{object_turn}
-use Rattle.image.specs.Read.{object_in}
 use Rattle.answer.specs.Stores.{cat}
 use mathlib.Core.Path.{◌≡◌, refl}
-use Prim.Native.Nat.{◌-◌, ◌≤◌}
 use native.Mathlib.Omega.{arith}
-use lib.ListN.{length, length-set}
-use lib.Seq.{sets}
+use lib.ListN.{length-set}
 use Rattle.image.proofs.get_objects.Goals as goal
 
 pub loop-h-init : goal.loop-h-init

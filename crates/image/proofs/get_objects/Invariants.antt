@@ -1,10 +1,8 @@
-use Rattle.image.proofs.Turns.{object_turn}
 use Rattle.image.specs.Read.{object_in}
 use Rattle.answer.specs.Stores.{cat}
-use mathlib.Core.Path.{◌≡◌, refl}
+use mathlib.Core.Path.{◌≡◌}
 use Prim.Native.Nat.{◌-◌, ◌≤◌}
-use native.Mathlib.Omega.{arith}
-use lib.ListN.{length, length-set}
+use lib.ListN.{length}
 use lib.Seq.{sets}
 use Rattle.image.proofs.get_objects.Given as goal
 

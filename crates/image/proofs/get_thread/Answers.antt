@@ -1,8 +1,6 @@
 use Rattle.image.proofs.Turns.{enter_in, enter_out}
-use Prim.Native.Nat.{◌-◌}
 use native.Mathlib.Omega.{arith}
 use lib.ListN.{length-set}
-use borrow.Author.Rules.{rules}
 use Rattle.image.proofs.get_thread.Goals as goal
 
 pub bounds-threads-id-then-id-lt-ALL_THREADS : goal.bounds-threads-id-then-id-lt-ALL_THREADS

@@ -1,9 +1,8 @@
 use Rattle.image.proofs.Turns.{enter_turn}
 use Rattle.image.specs.Read.{enter, entered}
 use mathlib.Core.Path.{◌≡◌, refl, sym, ap, ◌∙◌}
-use Prim.Native.Nat.{◌+◌, ◌*◌, ◌-◌, ◌≤◌}
+use Prim.Native.Nat.{◌+◌, ◌*◌}
 use native.Mathlib.Omega.{arith}
-use lib.ListN.{length}
 use Rattle.image.proofs.get_threads.Goals as goal
 
 pub loop-i-init : goal.loop-i-init

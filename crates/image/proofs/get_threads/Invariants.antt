@@ -1,8 +1,6 @@
-use Rattle.image.proofs.Turns.{enter_turn}
-use Rattle.image.specs.Read.{enter, entered}
-use mathlib.Core.Path.{◌≡◌, refl, sym, ap, ◌∙◌}
-use Prim.Native.Nat.{◌+◌, ◌*◌, ◌-◌, ◌≤◌}
-use native.Mathlib.Omega.{arith}
+use Rattle.image.specs.Read.{entered}
+use mathlib.Core.Path.{◌≡◌}
+use Prim.Native.Nat.{◌-◌, ◌≤◌}
 use lib.ListN.{length}
 use Rattle.image.proofs.get_threads.Given as goal
 

@@ -1,10 +1,8 @@
 use mathlib.Core.Path.{sym}
 use native.Mathlib.Omega.{arith}
 use lib.Seq.{length-take-le}
-use borrow.Author.Tests.{not-true, not-false}
 use Rattle.answer.specs.Tests.{via}
 use Rattle.image.proofs.Answers.{too_short, not_magic, bad_fields, cut_off, good_head}
-use borrow.Author.Rules.{rules}
 use Rattle.image.proofs.head_code.Goals as goal
 
 pub returns-then-image-lt-HEADER : goal.returns-then-image-lt-HEADER

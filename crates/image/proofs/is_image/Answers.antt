@@ -1,7 +1,6 @@
 use mathlib.Core.Path.{sym, ◌∙◌}
 use lib.Seq.{length-take-le}
 use Rattle.image.proofs.Answers.{long_enough, fits_room, no_image, compared}
-use borrow.Author.Rules.{rules}
 use Rattle.image.proofs.is_image.Goals as goal
 
 pub returns-then-w-ne-OK : goal.returns-then-w-ne-OK

@@ -2,12 +2,10 @@ use mathlib.Core.Path.{sym, ap, ◌∙◌}
 use Prim.Native.Nat.{ℕ, ◌≤◌}
 use native.Mathlib.Omega.{arith}
 use lib.ListN.{length, drop}
-use borrow.Author.Tests.{not-true, not-false}
 use Rattle.answer.specs.Tests.{via}
 use Rattle.tables.specs.Laws.{sizes}
 use Rattle.image.proofs.Turns.{part_rest}
 use Rattle.image.proofs.Answers.{head_is, wrong_size, wrong_head, wrong_contents, right}
-use borrow.Author.Rules.{rules}
 use Rattle.image.proofs.read.Goals as goal
 
 pub returns-then-not-is_sized : goal.returns-then-not-is_sized

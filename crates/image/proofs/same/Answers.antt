@@ -1,9 +1,7 @@
 use Rattle.image.proofs.Turns.{eqs_turn, eqs_no, eqs_long, eqs_end}
-use Rattle.image.specs.Read.{eqs}
 use mathlib.Core.Path.{◌≡◌, refl, sym, ◌∙◌}
-use Prim.Native.Nat.{◌-◌, ◌≤◌}
 use native.Mathlib.Omega.{arith}
-use lib.ListN.{length, drop}
+use lib.ListN.{length}
 use Rattle.image.proofs.same.Goals as goal
 
 pub returns-then-a-b : goal.returns-then-a-b

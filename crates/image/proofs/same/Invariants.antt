@@ -1,8 +1,6 @@
-use Rattle.image.proofs.Turns.{eqs_turn, eqs_no, eqs_long, eqs_end}
 use Rattle.image.specs.Read.{eqs}
-use mathlib.Core.Path.{◌≡◌, refl, sym, ◌∙◌}
+use mathlib.Core.Path.{◌≡◌}
 use Prim.Native.Nat.{◌-◌, ◌≤◌}
-use native.Mathlib.Omega.{arith}
 use lib.ListN.{length, drop}
 use Rattle.image.proofs.same.Given as goal
 

@@ -1,7 +1,6 @@
 use Rattle.image_write.proofs.Turns.{top_step, top_hit}
 use Rattle.image_write.specs.Encode.{top}
 use mathlib.Core.Path.{◌≡◌, refl, sym, ◌∙◌}
-use Prim.Native.Nat.{◌-◌, ◌≤◌}
 use native.Mathlib.Omega.{arith}
 use Rattle.image_write.proofs.count_objects.Goals as goal
 

@@ -1,9 +1,8 @@
 use Rattle.image_write.proofs.Turns.{live_more, live_same}
 use Rattle.image_write.specs.Encode.{live}
 use mathlib.Core.Path.{◌≡◌, refl, sym, ap, ◌∙◌}
-use Prim.Native.Nat.{ℕ, ◌+◌, ◌-◌, ◌≤◌}
+use Prim.Native.Nat.{ℕ, ◌+◌}
 use native.Mathlib.Omega.{arith}
-use mathlib.Core.Logic.{⊎_elim}
 use Rattle.image_write.proofs.count_threads.Goals as goal
 use Rattle.image_write.proofs.count_threads.Goals.{then-threads-t-ne0, else-threads-t-ne0}
 
@@ -33,8 +32,8 @@ pub loop-t-preserved : goal.loop-t-preserved
 loop-t-preserved c = let l = c.loop-t in
     let ts = c.args.threads.now in
     elim c.if-threads-t-ne0.branch [
-      then-threads-t-ne0 w ↦ (omega arith, (omega arith, w.n-is ∙ ap (λ (k : ℕ). k + 1) l.invariant.1.1 ∙ sym (live_more ts l.t w.if-threads-t-ne0.true)))
-    | else-threads-t-ne0 w ↦ (omega arith, (omega arith, w.n-is ∙ l.invariant.1.1 ∙ sym (live_same ts l.t w.if-threads-t-ne0.false)))
+      | then-threads-t-ne0 w ↦ (omega arith, (omega arith, w.n-is ∙ ap (λ (k : ℕ). k + 1) l.invariant.1.1 ∙ sym (live_more ts l.t w.if-threads-t-ne0.true)))
+      | else-threads-t-ne0 w ↦ (omega arith, (omega arith, w.n-is ∙ l.invariant.1.1 ∙ sym (live_same ts l.t w.if-threads-t-ne0.false)))
     ]
 
 pub returns : goal.returns

@@ -1,9 +1,6 @@
-use Rattle.image_write.proofs.Turns.{live_more, live_same}
 use Rattle.image_write.specs.Encode.{live}
-use mathlib.Core.Path.{◌≡◌, refl, sym, ap, ◌∙◌}
-use Prim.Native.Nat.{ℕ, ◌+◌, ◌-◌, ◌≤◌}
-use native.Mathlib.Omega.{arith}
-use mathlib.Core.Logic.{⊎_elim}
+use mathlib.Core.Path.{◌≡◌}
+use Prim.Native.Nat.{◌-◌, ◌≤◌}
 use Rattle.image_write.proofs.count_threads.Given as goal
 
 abbrev pub invariant-loop-t : goal.invariant-loop-t

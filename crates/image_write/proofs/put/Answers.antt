@@ -1,11 +1,9 @@
 -- `img::put`: the invariant: storing the bytes that are left gives what is to be stored. Assumes nothing.
 use mathlib.Core.Path.{◌≡◌, refl, sym, ◌∙◌}
-use Prim.Native.Nat.{◌+◌, ◌-◌, ◌≤◌}
+use Prim.Native.Nat.{◌-◌}
 use native.Mathlib.Omega.{arith}
 use native.Mathlib.Nat.{sub-zero, add-zero}
-use lib.ListN.{length, length-set}
-use lib.Seq.{sets}
-use borrow.Author.Rules.{rules}
+use lib.ListN.{length-set}
 use Rattle.image_write.specs.Bytes.{bytes}
 use Rattle.image_write.proofs.Bytes.{put_turn}
 use Rattle.image_write.proofs.put.Goals as goal

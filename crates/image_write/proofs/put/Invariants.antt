@@ -1,13 +1,9 @@
 -- `img::put`: the invariant: storing the bytes that are left gives what is to be stored. Assumes nothing.
-use mathlib.Core.Path.{◌≡◌, refl, sym, ◌∙◌}
+use mathlib.Core.Path.{◌≡◌}
 use Prim.Native.Nat.{◌+◌, ◌-◌, ◌≤◌}
-use native.Mathlib.Omega.{arith}
-use native.Mathlib.Nat.{sub-zero, add-zero}
-use lib.ListN.{length, length-set}
+use lib.ListN.{length}
 use lib.Seq.{sets}
-use borrow.Author.Rules.{rules}
 use Rattle.image_write.specs.Bytes.{bytes}
-use Rattle.image_write.proofs.Bytes.{put_turn}
 use Rattle.image_write.proofs.put.Given as goal
 
 abbrev pub invariant-loop-k : goal.invariant-loop-k

@@ -1,9 +1,8 @@
 use Rattle.image_write.proofs.Bytes.{copy_turn}
 use mathlib.Core.Path.{◌≡◌, refl, sym, ◌∙◌}
-use Prim.Native.Nat.{◌-◌, ◌≤◌}
 use native.Mathlib.Omega.{arith}
-use lib.ListN.{length, drop, length-set}
-use lib.Seq.{drop-length, sets}
+use lib.ListN.{length, length-set}
+use lib.Seq.{drop-length}
 use Rattle.image_write.proofs.put_all.Goals as goal
 
 pub loop-i-init : goal.loop-i-init

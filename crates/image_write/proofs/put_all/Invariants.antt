@@ -1,9 +1,7 @@
-use Rattle.image_write.proofs.Bytes.{copy_turn}
-use mathlib.Core.Path.{◌≡◌, refl, sym, ◌∙◌}
+use mathlib.Core.Path.{◌≡◌}
 use Prim.Native.Nat.{◌-◌, ◌≤◌}
-use native.Mathlib.Omega.{arith}
-use lib.ListN.{length, drop, length-set}
-use lib.Seq.{drop-length, sets}
+use lib.ListN.{length, drop}
+use lib.Seq.{sets}
 use Rattle.image_write.proofs.put_all.Given as goal
 
 abbrev pub invariant-loop-i : goal.invariant-loop-i

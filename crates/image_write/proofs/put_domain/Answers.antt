@@ -6,9 +6,8 @@ use Rattle.answer.specs.Stores.{cat}
 use Rattle.image_write.specs.Bytes.{bytes}
 use mathlib.Core.Path.{◌≡◌, refl, sym, ap, ◌∙◌}
 use mathlib.Core.List.{List}
-use Prim.Native.Nat.{ℕ, ◌+◌, ◌*◌, ◌-◌, ◌≤◌}
+use Prim.Native.Nat.{ℕ, ◌+◌, ◌*◌}
 use native.Mathlib.Omega.{arith}
-use lib.ListN.{length}
 use lib.Seq.{sets}
 use Rattle.image_write.proofs.put_domain.Goals as goal
 

@@ -1,13 +1,7 @@
-use Rattle.image_write.proofs.Bytes.{cat_length}
-use Rattle.image_write.proofs.Bytes.{cat_turn, sets_all}
-use Rattle.image_write.proofs.Turns.{slot_length}
-use Rattle.image_write.specs.Encode.{domain_bytes, slot_bytes}
+use Rattle.image_write.specs.Encode.{slot_bytes}
 use Rattle.answer.specs.Stores.{cat}
-use Rattle.image_write.specs.Bytes.{bytes}
-use mathlib.Core.Path.{◌≡◌, refl, sym, ap, ◌∙◌}
-use mathlib.Core.List.{List}
-use Prim.Native.Nat.{ℕ, ◌+◌, ◌*◌, ◌-◌, ◌≤◌}
-use native.Mathlib.Omega.{arith}
+use mathlib.Core.Path.{◌≡◌}
+use Prim.Native.Nat.{◌-◌, ◌≤◌}
 use lib.ListN.{length}
 use lib.Seq.{sets}
 use Rattle.image_write.proofs.put_domain.Given as goal

@@ -1,12 +1,12 @@
 use Rattle.image_write.proofs.Bytes.{part_length}
 use Rattle.image_write.proofs.Turns.{domains_put}
-use Rattle.image_write.specs.Encode.{domains_bytes, domain_part}
+use Rattle.image_write.specs.Encode.{domains_bytes}
 use Rattle.answer.specs.Stores.{cat}
 use mathlib.Core.Path.{◌≡◌, refl, ap, ◌∙◌}
-use Prim.Native.Nat.{◌+◌, ◌*◌, ◌-◌, ◌≤◌}
+use Prim.Native.Nat.{◌+◌, ◌*◌, ◌≤◌}
 use native.Mathlib.Omega.{arith}
 use lib.ListN.{length}
-use lib.Seq.{sets, length-sets}
+use lib.Seq.{length-sets}
 use Rattle.image_write.proofs.put_domains.Goals as goal
 
 pub loop-d-init : goal.loop-d-init

@@ -1,12 +1,9 @@
-use Rattle.image_write.proofs.Bytes.{part_length}
-use Rattle.image_write.proofs.Turns.{domains_put}
-use Rattle.image_write.specs.Encode.{domains_bytes, domain_part}
+use Rattle.image_write.specs.Encode.{domain_part}
 use Rattle.answer.specs.Stores.{cat}
-use mathlib.Core.Path.{◌≡◌, refl, ap, ◌∙◌}
-use Prim.Native.Nat.{◌+◌, ◌*◌, ◌-◌, ◌≤◌}
-use native.Mathlib.Omega.{arith}
+use mathlib.Core.Path.{◌≡◌}
+use Prim.Native.Nat.{◌-◌, ◌≤◌}
 use lib.ListN.{length}
-use lib.Seq.{sets, length-sets}
+use lib.Seq.{sets}
 use Rattle.image_write.proofs.put_domains.Given as goal
 
 abbrev pub invariant-loop-d : goal.invariant-loop-d

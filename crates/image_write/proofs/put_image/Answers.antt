@@ -1,8 +1,7 @@
 use Rattle.image_write.proofs.Turns.{threads_length, encode_put}
 use mathlib.Core.Path.{refl}
-use Prim.Native.Nat.{◌+◌, ◌*◌, ◌-◌}
+use Prim.Native.Nat.{◌+◌, ◌*◌}
 use native.Mathlib.Omega.{arith}
-use borrow.Author.Rules.{rules}
 use Rattle.image_write.proofs.put_image.Goals as goal
 
 pub put_threads-requires : goal.put_threads-requires

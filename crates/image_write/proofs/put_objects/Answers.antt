@@ -1,11 +1,7 @@
 use Rattle.image_write.proofs.Turns.{object_put}
-use Rattle.image_write.specs.Encode.{object_bytes}
 use Rattle.answer.specs.Stores.{cat}
 use mathlib.Core.Path.{◌≡◌, refl, ◌∙◌}
-use Prim.Native.Nat.{◌-◌, ◌≤◌}
 use native.Mathlib.Omega.{arith}
-use lib.ListN.{length}
-use lib.Seq.{sets}
 use Rattle.image_write.proofs.put_objects.Goals as goal
 
 pub loop-h-init : goal.loop-h-init

@@ -1,9 +1,7 @@
-use Rattle.image_write.proofs.Turns.{object_put}
 use Rattle.image_write.specs.Encode.{object_bytes}
 use Rattle.answer.specs.Stores.{cat}
-use mathlib.Core.Path.{◌≡◌, refl, ◌∙◌}
+use mathlib.Core.Path.{◌≡◌}
 use Prim.Native.Nat.{◌-◌, ◌≤◌}
-use native.Mathlib.Omega.{arith}
 use lib.ListN.{length}
 use lib.Seq.{sets}
 use Rattle.image_write.proofs.put_objects.Given as goal

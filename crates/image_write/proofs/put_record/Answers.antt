@@ -1,6 +1,4 @@
 use Rattle.image_write.proofs.Turns.{record_put}
-use Prim.Native.Nat.{◌-◌}
-use borrow.Author.Rules.{rules}
 use Rattle.image_write.proofs.put_record.Goals as goal
 
 pub returns : goal.returns

@@ -1,10 +1,9 @@
 use Rattle.image_write.proofs.Turns.{thread_dead, thread_live, thread_length}
 use mathlib.Core.Path.{◌≡◌, refl, sym, ◌∙◌}
-use Prim.Native.Nat.{◌*◌, ◌-◌}
+use Prim.Native.Nat.{◌*◌}
 use native.Mathlib.Omega.{arith}
 use native.Mathlib.Nat.{add-zero}
 use lib.ListN.{get_or}
-use borrow.Author.Rules.{rules}
 use Rattle.image_write.proofs.put_thread.Goals as goal
 
 pub returns-then-role-eq0 : goal.returns-then-role-eq0

@@ -2,10 +2,9 @@ use Rattle.answer.specs.Stores.{behind, cat}
 use Rattle.image_write.proofs.Bytes.{cat_room, cat_more}
 use Rattle.image_write.specs.Encode.{thread_bytes}
 use mathlib.Core.Path.{◌≡◌, refl, sym, ◌∙◌}
-use Prim.Native.Nat.{◌+◌, ◌-◌, ◌≤◌}
+use Prim.Native.Nat.{◌+◌, ◌≤◌}
 use native.Mathlib.Omega.{arith}
 use lib.ListN.{length-append, length}
-use lib.Seq.{sets}
 use Rattle.image_write.proofs.put_threads.Goals as goal
 
 pub loop-t-init : goal.loop-t-init

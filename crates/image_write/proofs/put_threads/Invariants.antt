@@ -1,10 +1,8 @@
-use Rattle.answer.specs.Stores.{behind, cat}
-use Rattle.image_write.proofs.Bytes.{cat_room, cat_more}
+use Rattle.answer.specs.Stores.{cat}
 use Rattle.image_write.specs.Encode.{thread_bytes}
-use mathlib.Core.Path.{◌≡◌, refl, sym, ◌∙◌}
+use mathlib.Core.Path.{◌≡◌}
 use Prim.Native.Nat.{◌+◌, ◌-◌, ◌≤◌}
-use native.Mathlib.Omega.{arith}
-use lib.ListN.{length-append, length}
+use lib.ListN.{length}
 use lib.Seq.{sets}
 use Rattle.image_write.proofs.put_threads.Given as goal
 

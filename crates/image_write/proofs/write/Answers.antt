@@ -1,7 +1,5 @@
 use mathlib.Core.Path.{refl, sym, ◌∙◌}
-use borrow.Author.Tests.{not-true, not-false}
 use Rattle.image_write.proofs.Answers.{tables_fit, broken, short, done}
-use borrow.Author.Rules.{rules}
 use Rattle.image_write.proofs.write.Goals as goal
 
 pub returns-then-not-keeps : goal.returns-then-not-keeps

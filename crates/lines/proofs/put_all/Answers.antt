@@ -1,12 +1,7 @@
-use native.Mathlib.Nat.{zero-add}
-use mathlib.Core.Path.{◌≡◌, refl, sym, ◌∙◌}
-use Prim.Native.Nat.{◌+◌, ◌-◌, ◌*◌, ◌≤◌}
+use mathlib.Core.Path.{◌≡◌, refl, ◌∙◌}
 use native.Mathlib.Omega.{arith}
-use lib.ListN.{length}
-use Rattle.answer.specs.Stores.{cat}
 use Rattle.lines.specs.Lines.{line_at}
-use Rattle.lines.specs.Steps.{Piece, none_put, one_more}
-use Rattle.lines.proofs.put_line.Reads as put-line-reads
+use Rattle.lines.specs.Steps.{none_put, one_more}
 use Rattle.lines.proofs.put_all.Goals as goal
 
 pub loop-k-init : goal.loop-k-init

@@ -1,12 +1,9 @@
-use native.Mathlib.Nat.{zero-add}
-use mathlib.Core.Path.{◌≡◌, refl, sym, ◌∙◌}
-use Prim.Native.Nat.{◌+◌, ◌-◌, ◌*◌, ◌≤◌}
-use native.Mathlib.Omega.{arith}
+use mathlib.Core.Path.{◌≡◌}
+use Prim.Native.Nat.{◌-◌, ◌*◌, ◌≤◌}
 use lib.ListN.{length}
 use Rattle.answer.specs.Stores.{cat}
 use Rattle.lines.specs.Lines.{line_at}
-use Rattle.lines.specs.Steps.{Piece, none_put, one_more}
-use Rattle.lines.proofs.put_line.Reads as put-line-reads
+use Rattle.lines.specs.Steps.{Piece}
 use Rattle.lines.proofs.put_all.Given as goal
 
 abbrev pub invariant-loop-k : goal.invariant-loop-k

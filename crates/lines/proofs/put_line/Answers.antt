@@ -1,15 +1,11 @@
 use Prim.Native.Nat.{◌+◌}
-use native.Mathlib.Nat.{zero-add}
-use mathlib.Core.Path.{sym, ap, ◌∙◌}
+use mathlib.Core.Path.{sym, ap}
 use native.Mathlib.Omega.{arith}
 use lib.ListN.{length-set}
 use Rattle.text.specs.Laws.{number_most}
 use Rattle.lines.proofs.Laws.{line_put, kept_twice}
-use borrow.Author.Rules.{rules}
 use Rattle.lines.specs.Lines.{line}
 use Rattle.lines.specs.Steps.{known_as}
-use Rattle.lines.proofs.put_short.Reads as put-short-reads
-use Rattle.text.proofs.put_number.Reads as put-number-reads
 use Rattle.lines.proofs.put_line.Goals as goal
 
 pub returns-then-code-lt10 : goal.returns-then-code-lt10

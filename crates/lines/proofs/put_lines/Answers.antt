@@ -1,8 +1,6 @@
 use native.Mathlib.Omega.{arith}
 use Rattle.lines.specs.Lines.{line_at}
 use Rattle.lines.specs.Steps.{few, small, all}
-use borrow.Author.Rules.{rules}
-use Rattle.lines.proofs.put_all.Reads as put-all-reads
 use Rattle.lines.proofs.put_lines.Goals as goal
 
 pub returns-then-out-n : goal.returns-then-out-n

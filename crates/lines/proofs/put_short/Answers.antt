@@ -1,7 +1,6 @@
 use native.Mathlib.Omega.{arith}
 use lib.ListN.{length-set}
 use Rattle.lines.proofs.Laws.{short_put}
-use borrow.Author.Rules.{rules}
 use Rattle.lines.proofs.put_short.Goals as goal
 
 pub bounds-text-space : goal.bounds-text-space

@@ -1,6 +1,4 @@
-use Rattle.std.proofs.Common.{◌≡◌, ◌+◌, ◌-◌, ◌≤◌, arith}
-use Rattle.tables.specs.Table.{partitions_at}
-use Rattle.mem_check.specs.Memory.{covered_run}
+use Rattle.std.proofs.Common.{arith}
 use Rattle.mem_check.proofs.Windows.{walk_start, walk_stop, walk_on, walk_all, walk_end}
 use Rattle.mem_check.proofs.covered.Goals as goal
 

@@ -1,7 +1,6 @@
-use Rattle.std.proofs.Common.{◌≡◌, ◌+◌, ◌-◌, ◌≤◌, arith}
+use Rattle.std.proofs.Common.{◌≡◌, ◌+◌, ◌-◌, ◌≤◌}
 use Rattle.tables.specs.Table.{partitions_at}
 use Rattle.mem_check.specs.Memory.{covered_run}
-use Rattle.mem_check.proofs.Windows.{walk_start, walk_stop, walk_on, walk_all, walk_end}
 use Rattle.mem_check.proofs.covered.Given as goal
 
 abbrev pub invariant-loop-done : goal.invariant-loop-done

@@ -1,4 +1,4 @@
-use Rattle.std.proofs.Common.{sym, rules}
+use Rattle.std.proofs.Common.{sym}
 use Rattle.mem_check.specs.Runs.{run_off}
 use Rattle.mem_check.proofs.Memory.{in_none, in_whole, none_covered}
 use Rattle.mem_check.proofs.covered_in.Goals as goal

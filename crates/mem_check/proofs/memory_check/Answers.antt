@@ -1,4 +1,4 @@
-use Rattle.std.proofs.Common.{sym, rules, le-ltb, lt-ltb, eq-eqb, ne_eqb, le-leb}
+use Rattle.std.proofs.Common.{sym, le-ltb, lt-ltb, eq-eqb, ne_eqb, le-leb}
 use borrow.Author.Tests.{lt-leb}
 use Rattle.mem_check.specs.Memory.{memory_rule, reached}
 use Rattle.mem_check.proofs.memory_check.Goals as goal

@@ -1,5 +1,5 @@
-use Rattle.std.proofs.Common.{◌-◌, ◌≤◌, not-suc-le-zero, arith}
-use Rattle.mem_check.proofs.Windows.{NoneTo, scan_hit, scan_miss, scan_end}
+use Rattle.std.proofs.Common.{not-suc-le-zero, arith}
+use Rattle.mem_check.proofs.Windows.{scan_hit, scan_miss, scan_end}
 use Rattle.mem_check.proofs.run_at.Goals as goal
 
 pub overflow_mul-first : goal.overflow_mul-first

@@ -1,5 +1,5 @@
-use Rattle.std.proofs.Common.{◌-◌, ◌≤◌, not-suc-le-zero, arith}
-use Rattle.mem_check.proofs.Windows.{NoneTo, scan_hit, scan_miss, scan_end}
+use Rattle.std.proofs.Common.{◌-◌, ◌≤◌}
+use Rattle.mem_check.proofs.Windows.{NoneTo}
 use Rattle.mem_check.proofs.run_at.Given as goal
 
 abbrev pub invariant-loop-k : goal.invariant-loop-k

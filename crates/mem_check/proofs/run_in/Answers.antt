@@ -1,11 +1,8 @@
 use Rattle.answer.specs.Tests.{via}
-use Rattle.std.proofs.Common.{arith, rules}
+use Rattle.std.proofs.Common.{arith}
 use Rattle.tables.specs.Table.{partition_at}
 use Rattle.mem_check.specs.Memory.{gives}
 use Rattle.mem_check.proofs.Windows.{slot_far, in_reach, slot_barred, slot_run}
-use Rattle.mem_check.proofs.ahead_of.Reads as ahead-of-reads
-use Rattle.mem_check.proofs.is_given.Reads as is-given-reads
-use Rattle.mem_check.proofs.wide.Reads as wide-reads
 use Rattle.mem_check.proofs.run_in.Goals as goal
 
 pub returns-then-wide-ahead_of : goal.returns-then-wide-ahead_of

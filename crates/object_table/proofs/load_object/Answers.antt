@@ -1,6 +1,4 @@
 use Rattle.tables.specs.Table.{object_at}
-use borrow.Author.Rules.{rules}
-use Rattle.object_table.proofs.at64.Reads as at64-reads
 use Rattle.object_table.proofs.load_object.Goals as goal
 
 pub returns : goal.returns

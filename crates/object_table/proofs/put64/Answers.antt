@@ -1,6 +1,5 @@
 use mathlib.Core.Path.{sym}
 use lib.Seq.{set_out}
-use borrow.Author.Rules.{rules}
 use Rattle.object_table.proofs.put64.Goals as goal
 
 pub returns-else-i-xs : goal.returns-else-i-xs

@@ -1,7 +1,5 @@
 use native.Mathlib.Numerals.{add-one}
 use Rattle.tables.specs.Table.{put_object}
-use borrow.Author.Rules.{rules}
-use Rattle.object_table.proofs.put64.Reads as put64-reads
 use Rattle.object_table.proofs.store_object.Goals as goal
 
 pub returns : goal.returns

@@ -1,16 +1,9 @@
-use borrow.Author.Rules.{rules}
-use Rattle.answer.specs.Tests.{tests, via}
-use Rattle.domain_rules.proofs.All.{all_none, all_more, all_fails}
 use Rattle.domain_rules.specs.Scan.{all_to}
 use Rattle.domain_rules.specs.Sound.{slots_sound}
 use Rattle.tables.specs.Table.{partitions_at}
-use Rattle.rules.specs.Rules.{domains_sound}
-use Prim.Native.Nat.{◌-◌, ◌+◌, ◌*◌, ◌≤◌}
-use mathlib.Core.Path.{◌≡◌, refl, sym, ap, ◌∙◌}
-use mathlib.Core.Bool.{true, false}
-use native.Mathlib.Omega.{arith}
-use borrow.Author.Tests.{not-true, not-false}
-use Rattle.rules.proofs.domain_fine.Reads as domain-fine-reads
+use Prim.Native.Nat.{◌-◌, ◌≤◌}
+use mathlib.Core.Path.{◌≡◌}
+use mathlib.Core.Bool.{true}
 use Rattle.rules.proofs.domains_ok.Given as goal
 
 abbrev pub invariant-loop-d : goal.invariant-loop-d

@@ -1,5 +1,4 @@
-use borrow.Author.Rules.{rules}
-use Rattle.answer.specs.Tests.{tests, via}
+use Rattle.answer.specs.Tests.{tests}
 use Rattle.rules.proofs.home_ok.Goals as goal
 
 pub returns-then-d-lt-DOMAINS : goal.returns-then-d-lt-DOMAINS

@@ -1,20 +1,9 @@
-use mathlib.Core.Path.{◌≡◌, refl, sym, ap, ◌∙◌}
-use mathlib.Core.Logic.{◌⊎◌, inl, inr}
+use mathlib.Core.Path.{◌∙◌}
 use Rattle.rules.proofs.Rules.{live_handle}
-use Rattle.bits.specs.Bit.{set_bit, code_set}
-use Rattle.rules.specs.Rules.{is_served, serving, thread_ok, judged_threads, object_ok, object_at_ok, domains_sound, keeps_test}
-use borrow.Author.Rules.{rules}
-use Rattle.answer.specs.Tests.{tests, via}
-use Rattle.rules.proofs.Pass.{Passing, pass_none, pass_all, turn_bad, turn_twice, turn_dead, turn_live}
-use Prim.Native.Nat.{◌-◌, ◌≤◌}
-use mathlib.Core.Path.{◌≡◌, refl, sym, ◌∙◌}
-use mathlib.Core.Bool.{true, false}
-use native.Mathlib.Omega.{arith}
-use borrow.Author.Tests.{not-true, not-false}
-use Rattle.rules.proofs.is_served.Reads as is-served-reads
-use Rattle.tables.proofs.load_thread.Reads as load-thread-reads
-use Rattle.rules.proofs.thread_ok.Reads as thread-ok-reads
-use Rattle.rules.proofs.with_served.Reads as with-served-reads
+use Rattle.bits.specs.Bit.{code_set}
+use Rattle.answer.specs.Tests.{via}
+use Rattle.rules.proofs.Pass.{pass_none, pass_all, turn_bad, turn_twice, turn_dead, turn_live}
+use mathlib.Core.Path.{◌∙◌}
 use Rattle.rules.proofs.judge_threads.Goals as goal
 use Rattle.rules.proofs.judge_threads.Goals.{then-r-ne0+else-is_served, else-r-ne0}
 
@@ -37,8 +26,8 @@ pub loop-t-preserved : goal.loop-t-preserved
 loop-t-preserved c =
     let k = via c.thread_ok.ensures c.if-not-thread_ok.false in
     elim c.if-r-ne0.branch [
-      then-r-ne0+else-is_served w ↦ turn_live _ _ c.loop-t.invariant c.loop-t-test.true c.load_thread-r.ensures k w.if-r-ne0.true (via w.is_served.ensures w.if-is_served.false) (w.live-is ∙ code_set _ _ c.loop-t-test.true) (w.served-is ∙ w.with_served-next.ensures)
-    | else-r-ne0 w ↦ turn_dead _ _ c.loop-t.invariant c.loop-t-test.true c.load_thread-r.ensures k w.if-r-ne0.false w.live-is w.served-is
+      | then-r-ne0+else-is_served w ↦ turn_live _ _ c.loop-t.invariant c.loop-t-test.true c.load_thread-r.ensures k w.if-r-ne0.true (via w.is_served.ensures w.if-is_served.false) (w.live-is ∙ code_set _ _ c.loop-t-test.true) (w.served-is ∙ w.with_served-next.ensures)
+      | else-r-ne0 w ↦ turn_dead _ _ c.loop-t.invariant c.loop-t-test.true c.load_thread-r.ensures k w.if-r-ne0.false w.live-is w.served-is
     ]
 
 pub returns : goal.returns

@@ -1,12 +1,8 @@
-use mathlib.Core.Path.{◌≡◌, refl, sym, ap, ◌∙◌}
+use mathlib.Core.Path.{◌∙◌}
 use borrow.Author.Tests.{eq-eqb, ne_eqb, not-true, not-false}
 use Rattle.answer.specs.Tests.{via}
 use Rattle.rules.specs.Rules.{keeps_test}
 use Rattle.rules.proofs.Pass.{judged_ok, judged_live}
-use borrow.Author.Rules.{rules}
-use Rattle.rules.proofs.domains_ok.Reads as domains-ok-reads
-use Rattle.rules.proofs.judge_threads.Reads as judge-threads-reads
-use Rattle.rules.proofs.objects_ok.Reads as objects-ok-reads
 use Rattle.rules.proofs.keeps.Goals as goal
 
 pub returns-then-objects-ne-OBJECT_NUMBERS : goal.returns-then-objects-ne-OBJECT_NUMBERS

@@ -1,6 +1,5 @@
-use Rattle.rules.specs.Rules.{is_served, serving, thread_ok, judged_threads, object_ok, object_at_ok, domains_sound, keeps_test}
-use borrow.Author.Rules.{rules}
-use Rattle.answer.specs.Tests.{tests, via}
+use Rattle.rules.specs.Rules.{object_ok}
+use Rattle.answer.specs.Tests.{tests}
 use Rattle.rules.proofs.object_ok.Goals as goal
 
 pub returns-then-head-eq0-2 : goal.returns-then-head-eq0-2

@@ -1,17 +1,10 @@
-use Rattle.answer.specs.Tests.{tests, via}
+use Rattle.answer.specs.Tests.{via}
 use Rattle.rules.specs.Rules.{slot_fine}
 use Rattle.domain_rules.proofs.Sound.{free_clear}
 use Rattle.tables.specs.Table.{partition_at}
 use Rattle.domain_rules.specs.Sound.{slot_ok}
-use Prim.Native.Nat.{◌-◌, ◌+◌, ◌*◌, ◌≤◌}
-use mathlib.Core.Path.{◌≡◌, refl, sym, ap, ◌∙◌}
-use mathlib.Core.Bool.{true, false}
-use native.Mathlib.Omega.{arith}
-use borrow.Author.Tests.{not-true, not-false}
-use borrow.Author.Rules.{rules}
-use Rattle.domain_rules.proofs.slot_ok.Reads as slot-ok-reads
-use Rattle.rules.proofs.is_clear.Reads as is-clear-reads
-use Rattle.rules.proofs.partition_in.Reads as partition-in-reads
+use Prim.Native.Nat.{◌+◌}
+use mathlib.Core.Path.{sym, ap, ◌∙◌}
 use Rattle.rules.proofs.slot_fine.Goals as goal
 
 pub returns-then-not-slot_ok : goal.returns-then-not-slot_ok

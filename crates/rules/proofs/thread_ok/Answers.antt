@@ -1,9 +1,6 @@
 use borrow.Author.Tests.{lt-ltb, le-leb, ne_eqb}
-use Rattle.rules.specs.Rules.{is_served, serving, thread_ok, judged_threads, object_ok, object_at_ok, domains_sound, keeps_test}
+use Rattle.rules.specs.Rules.{thread_ok}
 use Rattle.answer.specs.Tests.{tests, via}
-use borrow.Author.Rules.{rules}
-use Rattle.rules.proofs.home_ok.Reads as home-ok-reads
-use Rattle.object_table.proofs.load_object.Reads as load-object-reads
 use Rattle.rules.proofs.thread_ok.Goals as goal
 
 pub returns-then-r-eq0-2 : goal.returns-then-r-eq0-2

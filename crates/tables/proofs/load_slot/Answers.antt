@@ -1,7 +1,5 @@
 use Rattle.tables.specs.Table.{slot_at}
 use Rattle.answer.specs.Tests.{tests}
-use borrow.Author.Rules.{rules}
-use Rattle.tables.proofs.load_partition.Reads as load-partition-reads
 use Rattle.tables.proofs.load_slot.Goals as goal
 
 pub returns-then-k-ge-MAX_PARTITIONS : goal.returns-then-k-ge-MAX_PARTITIONS

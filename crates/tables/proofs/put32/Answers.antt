@@ -1,6 +1,5 @@
 use mathlib.Core.Path.{sym}
 use lib.Seq.{set_out}
-use borrow.Author.Rules.{rules}
 use Rattle.tables.proofs.put32.Goals as goal
 
 pub returns-else-i-xs : goal.returns-else-i-xs

@@ -1,11 +1,8 @@
-use mathlib.Core.Path.{◌≡◌, refl, sym, ◌∙◌}
-use native.Mathlib.Omega.{arith}
-use Prim.Native.Nat.{◌+◌, ◌*◌, ◌-◌, ◌≤◌}
-use mathlib.Core.Path.{◌≡◌, refl}
+use mathlib.Core.Path.{◌≡◌}
+use Prim.Native.Nat.{◌-◌, ◌≤◌}
+use mathlib.Core.Path.{◌≡◌}
 use lib.ListN.{length}
-use borrow.Author.Rules.{rules}
-use Rattle.tables.specs.Table.{put_to, put_none, put_more}
-use Rattle.tables.proofs.store_partition.Reads as store-partition-reads
+use Rattle.tables.specs.Table.{put_to}
 use Rattle.tables.proofs.store_domain.Given as goal
 
 abbrev pub invariant-loop-k : goal.invariant-loop-k

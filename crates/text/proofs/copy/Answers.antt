@@ -1,9 +1,8 @@
 use mathlib.Core.Path.{◌≡◌, refl, sym, ◌∙◌}
-use Prim.Native.Nat.{◌+◌, ◌-◌, ◌≤◌}
 use native.Mathlib.Omega.{arith}
 use native.Mathlib.Nat.{add-zero}
-use lib.ListN.{length, drop, length-set}
-use lib.Seq.{sets, drop-length}
+use lib.ListN.{length, length-set}
+use lib.Seq.{drop-length}
 use Rattle.text.proofs.Laws.{copy_turn}
 use Rattle.text.proofs.copy.Goals as goal
 

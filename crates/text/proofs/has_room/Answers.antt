@@ -1,7 +1,4 @@
 use Rattle.text.proofs.Laws.{past, within}
-use Rattle.answer.specs.Tests.{tests}
-use native.Mathlib.Omega.{arith}
-use borrow.Author.Rules.{rules}
 use Rattle.text.proofs.has_room.Goals as goal
 
 pub returns-then-text-at : goal.returns-then-text-at

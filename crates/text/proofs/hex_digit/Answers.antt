@@ -1,6 +1,5 @@
 use Rattle.answer.specs.Tests.{tests}
 use Rattle.text.specs.Text.{hex_digit}
-use borrow.Author.Rules.{rules}
 use Rattle.text.proofs.hex_digit.Goals as goal
 
 pub returns-then-d-lt10 : goal.returns-then-d-lt10

@@ -1,11 +1,6 @@
 use mathlib.Core.Path.{sym, ◌∙◌}
-use borrow.Author.Tests.{not-true, not-false, leb-true}
+use borrow.Author.Tests.{leb-true}
 use Rattle.text.proofs.Laws.{hex_put, no_hex}
-use borrow.Author.Rules.{rules}
-use Rattle.text.proofs.greater.Reads as greater-reads
-use Rattle.text.proofs.has_room.Reads as has-room-reads
-use Rattle.text.proofs.hex_places.Reads as hex-places-reads
-use Rattle.text.proofs.spell_hex.Reads as spell-hex-reads
 use Rattle.text.proofs.put_hex.Goals as goal
 
 pub returns-then-not-has_room : goal.returns-then-not-has_room

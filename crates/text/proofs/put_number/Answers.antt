@@ -1,11 +1,7 @@
 use mathlib.Core.Path.{sym, ◌∙◌}
-use borrow.Author.Tests.{not-true, not-false, leb-true}
+use borrow.Author.Tests.{leb-true}
 use Rattle.text.specs.Laws.{decimal_length}
 use Rattle.text.proofs.Laws.{no_room, number_put}
-use borrow.Author.Rules.{rules}
-use Rattle.text.proofs.has_room.Reads as has-room-reads
-use Rattle.text.proofs.places.Reads as places-reads
-use Rattle.text.proofs.spell.Reads as spell-reads
 use Rattle.text.proofs.put_number.Goals as goal
 
 pub returns-then-not-has_room : goal.returns-then-not-has_room

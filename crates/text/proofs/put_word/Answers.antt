@@ -1,9 +1,6 @@
 use mathlib.Core.Path.{refl, sym, ◌∙◌}
-use borrow.Author.Tests.{not-true, not-false, leb-true}
+use borrow.Author.Tests.{leb-true}
 use Rattle.text.proofs.Laws.{no_room, has_put}
-use borrow.Author.Rules.{rules}
-use Rattle.text.proofs.copy.Reads as copy-reads
-use Rattle.text.proofs.has_room.Reads as has-room-reads
 use Rattle.text.proofs.put_word.Goals as goal
 
 pub returns-then-not-has_room : goal.returns-then-not-has_room

@@ -1,10 +1,8 @@
-use mathlib.Core.Path.{◌≡◌, refl, sym, ◌∙◌}
-use Prim.Native.Nat.{◌+◌, ◌-◌, ◌≤◌}
-use native.Mathlib.Omega.{arith}
-use lib.ListN.{length, length-set}
+use mathlib.Core.Path.{◌≡◌}
+use Prim.Native.Nat.{◌≤◌}
+use lib.ListN.{length}
 use lib.Seq.{sets}
 use Rattle.text.specs.Text.{digits}
-use Rattle.text.proofs.Laws.{spell_turn}
 use Rattle.text.proofs.spell.Given as goal
 
 abbrev pub invariant-loop-i : goal.invariant-loop-i

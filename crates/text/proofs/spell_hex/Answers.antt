@@ -1,11 +1,8 @@
 use mathlib.Core.Path.{◌≡◌, refl, sym, ◌∙◌}
-use Prim.Native.Nat.{◌+◌, ◌-◌, ◌≤◌}
 use native.Mathlib.Omega.{arith}
-use lib.ListN.{length, length-set}
-use lib.Seq.{sets}
+use lib.ListN.{length-set}
 use Rattle.text.specs.Text.{hex_digits}
 use Rattle.text.proofs.Laws.{spell_hex_turn}
-use Rattle.text.proofs.hex_digit.Reads as hex-digit-reads
 use Rattle.text.proofs.spell_hex.Goals as goal
 
 pub loop-i-init : goal.loop-i-init

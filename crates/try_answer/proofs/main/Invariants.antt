@@ -1,6 +1,4 @@
-use Prim.Native.Nat.{◌≤◌, ◌-◌}
-use borrow.Author.Rules.{rules}
-use Rattle.try_answer.proofs.line.Reads as line_reads_lem
+use Rattle.std.proofs.Common.{◌-◌, ◌≤◌}
 use Rattle.try_answer.proofs.main.Given as goal
 
 abbrev pub invariant-loop-n : goal.invariant-loop-n

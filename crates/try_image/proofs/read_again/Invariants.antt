@@ -1,11 +1,5 @@
-use mathlib.Core.Path.{◌≡◌}
-use Prim.Native.Nat.{◌-◌}
-use lib.ListN.{length}
-use borrow.Author.Rules.{rules}
+use Rattle.std.proofs.Common.{◌-◌}
 use Rattle.try_image.proofs.read_again.Given as goal
 
-abbrev pub invariant-loop-k : goal.invariant-loop-k
-invariant-loop-k l = (length l.threads ≡ length l.initial.objects) × (length l.slots ≡ length l.initial.threads) × (length l.bytes ≡ length l.initial.slots) × (length l.good ≡ length l.initial.bytes)
-
 abbrev pub decreases-loop-k : goal.decreases-loop-k
-decreases-loop-k l = l.a - k
+decreases-loop-k g l = l.a - l.k

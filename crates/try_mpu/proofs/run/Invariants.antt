@@ -1,10 +1,5 @@
-use Prim.Native.Nat.{◌≤◌, ◌-◌}
-use borrow.Author.Rules.{rules}
-use Rattle.try_mpu.proofs.figure.Reads as figure-reads
+use Rattle.std.proofs.Common.{◌-◌}
 use Rattle.try_mpu.proofs.run.Given as goal
 
-abbrev pub invariant-loop-k : goal.invariant-loop-k
-invariant-loop-k l = l.k ≤ 34
-
 abbrev pub decreases-loop-k : goal.decreases-loop-k
-decreases-loop-k l = 34 - l.k
+decreases-loop-k g l = 34 - l.k

@@ -1,7 +1,6 @@
 use Rattle.answer.specs.Tests.{tests}
 use Rattle.bits.specs.Bit.{bit_of}
 use Rattle.userspace.specs.Userspace.{bit_at}
-use borrow.Author.Rules.{rules}
 use Rattle.userspace.proofs.bit.Goals as goal
 
 pub returns-then-t-ge-MAX_THREADS : goal.returns-then-t-ge-MAX_THREADS

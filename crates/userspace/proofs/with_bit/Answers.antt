@@ -2,7 +2,6 @@ use Rattle.answer.specs.Tests.{tests}
 use borrow.Author.Tests.{lt-ltb}
 use Rattle.bits.specs.Bit.{code_set}
 use Rattle.userspace.specs.Userspace.{with_bit}
-use borrow.Author.Rules.{rules}
 use Rattle.userspace.proofs.with_bit.Goals as goal
 
 pub returns-then-t-ge-MAX_THREADS : goal.returns-then-t-ge-MAX_THREADS

@@ -2,7 +2,6 @@ use Rattle.answer.specs.Tests.{tests}
 use borrow.Author.Tests.{lt-ltb}
 use Rattle.bits.specs.Bit.{code_clear}
 use Rattle.userspace.specs.Userspace.{without_bit}
-use borrow.Author.Rules.{rules}
 use Rattle.userspace.proofs.without_bit.Goals as goal
 
 pub returns-then-t-ge-MAX_THREADS : goal.returns-then-t-ge-MAX_THREADS

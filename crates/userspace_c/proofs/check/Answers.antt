@@ -3,7 +3,6 @@ use mir.Facts.{to_z-of_z}
 use mathlib.Core.Path.{sym, ap, ◌∙◌}
 use Rattle.answer.specs.Tests.{via}
 use Rattle.userspace_c.proofs.Modes.{named, unnamed}
-use borrow.Author.Rules.{rules}
 use Rattle.userspace_c.proofs.check.Goals as goal
 
 pub returns-in-Is : goal.returns-in-Is

@@ -1,5 +1,4 @@
 use mathlib.Core.Path.{◌∙◌}
-use borrow.Author.Rules.{rules}
 use Rattle.userspace_c.proofs.userspace_check_access.Goals as goal
 
 pub returns : goal.returns

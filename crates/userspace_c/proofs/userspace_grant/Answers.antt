@@ -1,6 +1,5 @@
 use mathlib.Core.Path.{ap, ◌∙◌}
 use Rattle.userspace.specs.declared.Changed.{Changed}
-use borrow.Author.Rules.{rules}
 use Rattle.userspace_c.proofs.userspace_grant.Goals as goal
 
 pub returns : goal.returns

@@ -1,6 +1,5 @@
 use mathlib.Core.Path.{ap, ◌∙◌}
 use Rattle.answer.specs.declared.Answer.{Answer}
-use borrow.Author.Rules.{rules}
 use Rattle.userspace_c.proofs.userspace_has_perm.Goals as goal
 
 pub returns : goal.returns

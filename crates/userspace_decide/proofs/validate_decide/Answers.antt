@@ -1,4 +1,3 @@
-use borrow.Author.Tests.{not-true, not-false}
 use mir.Syntax.{w8}
 use Rattle.userspace_decide.specs.Decide.{judged}
 use Rattle.userspace_names.proofs.Steps.{signed}

@@ -1,6 +1,5 @@
 use mathlib.Core.Path.{sym, ap}
 use Rattle.userspace_names.specs.Names.{check_number}
-use borrow.Author.Rules.{rules}
 use Rattle.userspace_names.proofs.init_check_number.Goals as goal
 
 pub returns-in-MustBeInit : goal.returns-in-MustBeInit

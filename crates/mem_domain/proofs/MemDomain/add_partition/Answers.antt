@@ -1,6 +1,5 @@
 use mathlib.Core.Path.{sym, ◌∙◌}
-use borrow.Author.Tests.{lt-ltb, le-ltb, not-true, not-false}
-use borrow.Author.Rules.{rules}
+use borrow.Author.Tests.{lt-ltb, le-ltb}
 use Rattle.mem_domain.proofs.Domain.{has_free_lem, added_bad, added_full, added_ok}
 use Rattle.mem_domain.proofs.MemDomain.add_partition.Goals as goal
 

@@ -1,7 +1,6 @@
 use native.Mathlib.Omega.{arith}
 use mathlib.Core.Bool.{not}
 use mathlib.Core.Path.{sym, ap, ◌∙◌}
-use borrow.Author.Tests.{not-true, not-false}
 use Rattle.mem_domain.proofs.Domain.{clashes_crossed, addable_past, addable_bad}
 use Rattle.mem_partition.proofs.Partition.{valid_end}
 use Rattle.mem_domain.proofs.MemDomain.check_add_partition.Goals as goal

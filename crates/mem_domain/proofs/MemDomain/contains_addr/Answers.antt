@@ -1,8 +1,6 @@
-use Prim.Native.Nat.{◌-◌, ◌≤◌}
 use native.Mathlib.Omega.{arith}
-use mathlib.Core.Path.{◌≡◌, refl, sym, ◌∙◌}
-use Rattle.mem_domain.specs.Domain.{holds_at, contains_addr}
-use Rattle.mem_domain.specs.Scan.{first_from, lowest}
+use mathlib.Core.Path.{refl, sym, ◌∙◌}
+use Rattle.mem_domain.specs.Domain.{contains_addr}
 use Rattle.mem_domain.proofs.Scan.{any_at, turn_none, turn_miss}
 use Rattle.mem_domain.proofs.MemDomain.contains_addr.Goals as goal
 

@@ -1,9 +1,7 @@
 use Prim.Native.Nat.{◌-◌, ◌≤◌}
-use native.Mathlib.Omega.{arith}
-use mathlib.Core.Path.{◌≡◌, refl, sym, ◌∙◌}
-use Rattle.mem_domain.specs.Domain.{holds_at, contains_addr}
+use mathlib.Core.Path.{◌≡◌}
+use Rattle.mem_domain.specs.Domain.{holds_at}
 use Rattle.mem_domain.specs.Scan.{first_from, lowest}
-use Rattle.mem_domain.proofs.Scan.{any_at, turn_none, turn_miss}
 use Rattle.mem_domain.proofs.MemDomain.contains_addr.Given as goal
 
 abbrev pub invariant-loop-k : goal.invariant-loop-k

@@ -1,8 +1,6 @@
-use Prim.Native.Nat.{◌-◌, ◌≤◌}
 use native.Mathlib.Omega.{arith}
-use mathlib.Core.Path.{◌≡◌, refl, sym, ◌∙◌}
-use Rattle.mem_domain.specs.Domain.{crossed_at, crossed}
-use Rattle.mem_domain.specs.Scan.{first_from, lowest}
+use mathlib.Core.Path.{refl, sym, ◌∙◌}
+use Rattle.mem_domain.specs.Domain.{crossed}
 use Rattle.mem_domain.proofs.Scan.{any_at, turn_miss, turn_none}
 use Rattle.mem_domain.proofs.MemDomain.crosses.Goals as goal
 

@@ -1,9 +1,7 @@
 use Prim.Native.Nat.{◌-◌, ◌≤◌}
-use native.Mathlib.Omega.{arith}
-use mathlib.Core.Path.{◌≡◌, refl, sym, ◌∙◌}
-use Rattle.mem_domain.specs.Domain.{crossed_at, crossed}
+use mathlib.Core.Path.{◌≡◌}
+use Rattle.mem_domain.specs.Domain.{crossed_at}
 use Rattle.mem_domain.specs.Scan.{first_from, lowest}
-use Rattle.mem_domain.proofs.Scan.{any_at, turn_miss, turn_none}
 use Rattle.mem_domain.proofs.MemDomain.crosses.Given as goal
 
 abbrev pub invariant-loop-k : goal.invariant-loop-k

@@ -1,9 +1,7 @@
-use Prim.Native.Nat.{◌-◌, ◌≤◌}
 use native.Mathlib.Omega.{arith}
-use mathlib.Core.Path.{◌≡◌, refl, sym, ◌∙◌}
+use mathlib.Core.Path.{refl, sym, ◌∙◌}
 use borrow.Author.Tests.{eq-eqb, ne_eqb}
-use Rattle.mem_domain.specs.Scan.{first_from, lowest}
-use Rattle.mem_domain.specs.Domain.{free_at, lowest_free}
+use Rattle.mem_domain.specs.Domain.{lowest_free}
 use Rattle.mem_domain.proofs.Scan.{turn_hit, turn_miss, turn_end}
 use Rattle.mem_domain.proofs.MemDomain.first_free.Goals as goal
 

@@ -1,8 +1,6 @@
-use Prim.Native.Nat.{◌-◌, ◌≤◌}
 use native.Mathlib.Omega.{arith}
-use mathlib.Core.Path.{◌≡◌, refl, sym, ◌∙◌}
-use Rattle.mem_domain.specs.Domain.{window_at, lowest_window}
-use Rattle.mem_domain.specs.Scan.{first_from, lowest}
+use mathlib.Core.Path.{refl, sym, ◌∙◌}
+use Rattle.mem_domain.specs.Domain.{lowest_window}
 use Rattle.mem_domain.proofs.Scan.{turn_hit, turn_miss, turn_end}
 use Rattle.mem_domain.proofs.MemDomain.first_window.Goals as goal
 

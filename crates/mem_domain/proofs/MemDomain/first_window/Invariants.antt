@@ -1,9 +1,7 @@
 use Prim.Native.Nat.{◌-◌, ◌≤◌}
-use native.Mathlib.Omega.{arith}
-use mathlib.Core.Path.{◌≡◌, refl, sym, ◌∙◌}
-use Rattle.mem_domain.specs.Domain.{window_at, lowest_window}
+use mathlib.Core.Path.{◌≡◌}
+use Rattle.mem_domain.specs.Domain.{window_at}
 use Rattle.mem_domain.specs.Scan.{first_from, lowest}
-use Rattle.mem_domain.proofs.Scan.{turn_hit, turn_miss, turn_end}
 use Rattle.mem_domain.proofs.MemDomain.first_window.Given as goal
 
 abbrev pub invariant-loop-at : goal.invariant-loop-at

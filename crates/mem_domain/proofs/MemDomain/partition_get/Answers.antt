@@ -1,7 +1,6 @@
 use native.Mathlib.Omega.{arith}
 use mathlib.Core.Path.{sym, ◌∙◌}
 use borrow.Author.Tests.{eq-eqb, ne_eqb}
-use borrow.Author.Rules.{rules}
 use Rattle.mem_domain.proofs.Domain.{gotten_out, gotten_free, gotten_ok}
 use Rattle.mem_domain.proofs.MemDomain.partition_get.Goals as goal
 

@@ -1,6 +1,5 @@
 use mathlib.Core.Path.{sym, ◌∙◌}
 use borrow.Author.Tests.{lt-ltb, le-ltb, eq-eqb, ne_eqb}
-use borrow.Author.Rules.{rules}
 use Rattle.mem_domain.proofs.Domain.{has_window_lem, removed_zero, removed_none, removed_ok}
 use Rattle.mem_domain.proofs.MemDomain.remove_partition.Goals as goal
 

@@ -1,7 +1,6 @@
 use mathlib.Core.Path.{ap}
 use lib.Dec.{ltb}
 use borrow.Author.Tests.{lt-ltb, le-ltb}
-use borrow.Author.Rules.{rules}
 use Rattle.mem_partition.specs.Partition.{meets, overlap_of}
 use Rattle.mem_partition.proofs.Tests.{and_past}
 use Rattle.mem_partition.proofs.MemPartition.overlaps.Goals as goal

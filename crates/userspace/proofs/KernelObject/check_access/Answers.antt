@@ -1,7 +1,6 @@
 use mathlib.Core.Path.{◌∙◌}
 use Rattle.userspace.specs.Userspace.{access}
 use Rattle.userspace.proofs.Steps.{held}
-use borrow.Author.Rules.{rules}
 use Rattle.userspace.proofs.KernelObject.check_access.Goals as goal
 
 pub returns-then-supervisor : goal.returns-then-supervisor

@@ -1,7 +1,6 @@
 use mathlib.Core.Path.{◌∙◌}
 use Rattle.userspace.specs.Userspace.{granted, with_word}
 use Rattle.userspace.proofs.Steps.{at_with}
-use borrow.Author.Rules.{rules}
 use Rattle.userspace.proofs.KernelObject.grant_access.Goals as goal
 
 pub returns : goal.returns

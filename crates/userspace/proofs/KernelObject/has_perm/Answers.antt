@@ -1,7 +1,6 @@
 use Rattle.answer.specs.Tests.{tests}
 use borrow.Author.Tests.{lt-ltb}
 use Rattle.userspace.specs.Userspace.{bit_at, bit_answer}
-use borrow.Author.Rules.{rules}
 use Rattle.userspace.proofs.KernelObject.has_perm.Goals as goal
 
 pub returns-then-tid-ge-MAX_THREADS : goal.returns-then-tid-ge-MAX_THREADS

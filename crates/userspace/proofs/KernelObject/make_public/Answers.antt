@@ -1,5 +1,4 @@
 use mathlib.Core.Path.{◌∙◌}
-use borrow.Author.Rules.{rules}
 use Rattle.userspace.proofs.KernelObject.make_public.Goals as goal
 
 pub returns : goal.returns

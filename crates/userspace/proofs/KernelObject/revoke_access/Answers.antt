@@ -1,7 +1,6 @@
 use mathlib.Core.Path.{◌∙◌}
 use Rattle.userspace.specs.Userspace.{revoked, with_word}
 use Rattle.userspace.proofs.Steps.{at_without}
-use borrow.Author.Rules.{rules}
 use Rattle.userspace.proofs.KernelObject.revoke_access.Goals as goal
 
 pub returns : goal.returns

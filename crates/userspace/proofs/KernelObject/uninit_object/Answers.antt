@@ -1,5 +1,4 @@
 use mathlib.Core.Path.{◌∙◌}
-use borrow.Author.Rules.{rules}
 use Rattle.userspace.proofs.KernelObject.uninit_object.Goals as goal
 
 pub returns : goal.returns
