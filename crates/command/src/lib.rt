@@ -95,44 +95,44 @@ fn fail(errors: Stderr, what: &[u8], why: io::Error) -> u32
 }
 
 // The first n bytes, to standard output.
-fn emit(to: Streams, text: &[u8], n: usize, status: u32) -> u32
+fn emit(streams: Streams, text: &[u8], n: usize, status: u32) -> u32
     requires { (n ≤ length text.now) × (status < 4) }
     ensures { result < 4 }
 {
-    match Print::write_all(&to.output, &text[..n]) {
+    match Print::write_all(&streams.output, &text[..n]) {
         Ok(()) => status,
-        Err(why) => fail(to.errors, b"standard output", why),
+        Err(why) => fail(streams.errors, b"standard output", why),
     }
 }
 
-fn print(to: Streams, text: &[u8]) -> u32
+fn print(streams: Streams, text: &[u8]) -> u32
     ensures { result < 3 }
 {
-    match Print::write_all(&to.output, text) {
+    match Print::write_all(&streams.output, text) {
         Ok(()) => DONE,
-        Err(why) => fail(to.errors, b"standard output", why),
+        Err(why) => fail(streams.errors, b"standard output", why),
     }
 }
 
-fn help(to: Streams) -> u32
+fn help(streams: Streams) -> u32
     ensures { result < 3 }
 {
     let usage = print(
-        to,
+        streams,
         b"replay IMAGE < CALLS            an answer and a value a call, in decimal\nreplay --explain IMAGE < CALLS  the same in words\n",
     );
     if usage != DONE {
         return usage;
     }
     let options = print(
-        to,
+        streams,
         b"replay --help, -h               this text\nreplay --version                what this is\nreplay [--explain] -- IMAGE     an IMAGE whose name begins with -\n",
     );
     if options != DONE {
         return options;
     }
     print(
-        to,
+        streams,
         b"IMAGE is a state as docs/SPEC.md has it; a call is sixteen bytes. A refused image\nprints its answer and 0, and no call is read. A last part under sixteen bytes is 7 0.\nExit status: 0 done, 1 the image was refused, 2 usage, or a file or output that failed.\n",
     )
 }
@@ -357,7 +357,7 @@ fn status_of(came: usize) -> u32
 
 // What has come by now is answered and printed.
 fn turn(
-    with: Streams,
+    streams: Streams,
     objects: &mut [u64],
     threads: &mut [u32],
     slots: &mut [u32],
@@ -370,11 +370,11 @@ fn turn(
     requires { Ready words objects.old threads.old slots.old log.old out.old text.old t.have }
     ensures { (result.status < 4) × Ready words objects.new threads.new slots.new log.new out.new text.new result.have }
 {
-    let mut input = with.input;
+    let mut input = streams.input;
     let got = read_more(&mut input, log, t.have);
     if let Some(why) = got.failed {
         return Place {
-            status: fail(with.errors, b"standard input", why),
+            status: fail(streams.errors, b"standard input", why),
             have: t.have,
             first: t.first,
         };
@@ -384,7 +384,7 @@ fn turn(
     );
     let put = fed.put;
     Place {
-        status: emit(with, text, put.bytes, status_of(got.bytes)),
+        status: emit(streams, text, put.bytes, status_of(got.bytes)),
         have: fed.left,
         first: fed.next,
     }
@@ -398,7 +398,7 @@ fn no_end(errors: Stderr) -> u32
 
 // A proved loop has to end, and nothing says that the input does: the turns are counted up to a number that no run reaches.
 fn every(
-    with: Streams,
+    streams: Streams,
     objects: &mut [u64],
     threads: &mut [u32],
     slots: &mut [u32],
@@ -416,15 +416,15 @@ fn every(
         first: 1,
     };
     for _ in 0..u64::MAX {
-        t = turn(with, objects, threads, slots, log, out, text, words, t);
+        t = turn(streams, objects, threads, slots, log, out, text, words, t);
         if t.status < ON {
             return t.status;
         }
     }
-    no_end(with.errors)
+    no_end(streams.errors)
 }
 
-fn in_numbers(with: Streams, objects: &mut [u64], threads: &mut [u32], slots: &mut [u32]) -> u32
+fn in_numbers(streams: Streams, objects: &mut [u64], threads: &mut [u32], slots: &mut [u32]) -> u32
     requires { Sound objects.old threads.old slots.old }
     ensures { result < 3 }
 {
@@ -432,11 +432,11 @@ fn in_numbers(with: Streams, objects: &mut [u64], threads: &mut [u32], slots: &m
     let mut out = [0u32; ANSWERS];
     let mut text = [0u8; LINES];
     every(
-        with, objects, threads, slots, &mut log, &mut out, &mut text, false,
+        streams, objects, threads, slots, &mut log, &mut out, &mut text, false,
     )
 }
 
-fn in_words(with: Streams, objects: &mut [u64], threads: &mut [u32], slots: &mut [u32]) -> u32
+fn in_words(streams: Streams, objects: &mut [u64], threads: &mut [u32], slots: &mut [u32]) -> u32
     requires { Sound objects.old threads.old slots.old }
     ensures { result < 3 }
 {
@@ -444,27 +444,27 @@ fn in_words(with: Streams, objects: &mut [u64], threads: &mut [u32], slots: &mut
     let mut out = [0u32; FEW_ANSWERS];
     let mut text = [0u8; FEW_LINES];
     every(
-        with, objects, threads, slots, &mut log, &mut out, &mut text, true,
+        streams, objects, threads, slots, &mut log, &mut out, &mut text, true,
     )
 }
 
 // ---- the image
 
 // A refused image: its answer and 0, and no call is read.
-fn refuse(to: Streams, code: u32, words: bool) -> u32
+fn refuse(streams: Streams, code: u32, words: bool) -> u32
     ensures { result < 3 }
 {
     let mut text = [0u8; replaying::REFUSAL];
     let put = replaying::put_refusal(code, words, &mut text);
     let bytes = put.bytes;
-    match Print::write_all(&to.output, &text[..bytes]) {
+    match Print::write_all(&streams.output, &text[..bytes]) {
         Ok(()) => REFUSED,
-        Err(why) => fail(to.errors, b"standard output", why),
+        Err(why) => fail(streams.errors, b"standard output", why),
     }
 }
 
 // The image as bytes and, where it is a state, the calls.
-fn replay(with: Streams, file: &[u8], words: bool) -> u32
+fn replay(streams: Streams, file: &[u8], words: bool) -> u32
     ensures { result < 3 }
 {
     let mut objects = [0u64; 512];
@@ -473,12 +473,12 @@ fn replay(with: Streams, file: &[u8], words: bool) -> u32
     let mut code = 0u32;
     image::read(file, &mut objects, &mut threads, &mut slots, &mut code);
     if code != answer::OK {
-        return refuse(with, code, words);
+        return refuse(streams, code, words);
     }
     if words {
-        return in_words(with, &mut objects, &mut threads, &mut slots);
+        return in_words(streams, &mut objects, &mut threads, &mut slots);
     }
-    in_numbers(with, &mut objects, &mut threads, &mut slots)
+    in_numbers(streams, &mut objects, &mut threads, &mut slots)
 }
 
 // The system's number for bytes that are no text.
@@ -506,52 +506,52 @@ fn load<R: Files>(rt: &R, path: &[u8], file: &mut [u8]) -> io::Result<usize>
     }
 }
 
-fn open<R: Files>(rt: &R, with: Streams, path: &[u8], words: bool) -> u32
+fn open<R: Files>(rt: &R, streams: Streams, path: &[u8], words: bool) -> u32
     ensures { result < 3 }
 {
     let mut file = [0u8; IMAGE];
     match load(rt, path, &mut file) {
-        Ok(n) => replay(with, &file[..n], words),
-        Err(why) => fail(with.errors, path, why),
+        Ok(n) => replay(streams, &file[..n], words),
+        Err(why) => fail(streams.errors, path, why),
     }
 }
 
-fn open_argument<R: Env + Files>(rt: &R, with: Streams, i: usize, words: bool) -> u32
+fn open_argument<R: Env + Files>(rt: &R, streams: Streams, i: usize, words: bool) -> u32
     ensures { result < 3 }
 {
     let mut path = [0u8; WORD];
     let n = argument(rt, i, &mut path);
-    open(rt, with, &path[..n], words)
+    open(rt, streams, &path[..n], words)
 }
 
 // ---- the command
 
 // The whole of it. The status is 0, 1 or 2.
-pub fn wardlatch_replay<R: Env + Files>(rt: &R, with: Streams) -> u32
+pub fn wardlatch_replay<R: Env + Files>(rt: &R, streams: Streams) -> u32
     ensures { result < 3 }
 {
     let a = all_asked(rt);
     let what = a.what;
     match what {
         NO_FILE => complain(
-            with.errors,
+            streams.errors,
             b"replay: an image file is needed; replay --help says more\n",
         ),
-        ONE_FILE => open_argument(rt, with, a.image, a.words),
+        ONE_FILE => open_argument(rt, streams, a.image, a.words),
         MORE_FILES => {
             complain(
-                with.errors,
+                streams.errors,
                 b"replay: one image file is needed, not two: the calls come from standard input; replay --help says more\n",
             )
         }
         UNKNOWN => complain(
-            with.errors,
+            streams.errors,
             b"replay: no such option; replay --help says more\n",
         ),
         VERSION => print(
-            with,
+            streams,
             b"replay 1, of wardlatch: images WLATCH01, calls of sixteen bytes\n",
         ),
-        _ => help(with),
+        _ => help(streams),
     }
 }

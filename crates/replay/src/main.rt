@@ -5,10 +5,10 @@ use command::Streams;
 use std::process::ExitCode;
 
 fn main(rt: HostRuntime) -> ExitCode {
-    let with = Streams {
+    let streams = Streams {
         input: rt.stdin(),
         output: rt.stdout(),
         errors: rt.stderr(),
     };
-    ExitCode::from(command::wardlatch_replay(&rt, with) as u8)
+    ExitCode::from(command::wardlatch_replay(&rt, streams) as u8)
 }
