@@ -86,12 +86,7 @@ pub fn wardlatch_write(
 }
 
 // Plans a domain; in `words` how many words of `out` the plan has.
-pub fn wardlatch_plan(
-    domain: &[u32],
-    regions: u32,
-    out: &mut [u32],
-    words: &mut u32,
-) -> u32
+pub fn wardlatch_plan(domain: &[u32], regions: u32, out: &mut [u32], words: &mut u32) -> u32
     ensures { Plans domain.now regions out.old (record { code = result; value = words.new }) out.new }
 {
     if domain.len() != NUMBERS {
@@ -143,12 +138,7 @@ pub fn wardlatch_domain_add(
     settle(domain, changed, slot)
 }
 
-pub fn wardlatch_domain_remove(
-    domain: &mut [u32],
-    start: u32,
-    size: u32,
-    slot: &mut u32,
-) -> u32
+pub fn wardlatch_domain_remove(domain: &mut [u32], start: u32, size: u32, slot: &mut u32) -> u32
     ensures { Changes domain.old (removed (domain_in domain.old) start size) (record { code = result; value = slot.new }) domain.new }
 {
     let changed = tables::load_domain(domain, 0).remove_partition(start, size);
