@@ -1,25 +1,33 @@
 -- What the loop over the input cites: a ready state and roomy buffers make every feeding OK, and are so again behind it.
-use Prim.Native.Nat.{ℕ, ◌+◌, ◌*◌, ◌/◌, ◌≤◌, ◌<◌}
+use Prim.Native.Nat.{ℕ, ◌+◌, ◌-◌, ◌*◌, ◌/◌, ◌%◌, ◌≤◌, ◌<◌}
 use native.Mathlib.Omega.{arith}
 use mathlib.Core.Path.{◌≡◌, refl, sym, ap, ◌∙◌}
-use mathlib.Core.Bool.{Bool, true, false, cond}
-use mathlib.Core.List.{List, ◌++◌}
+use mathlib.Core.Bool.{Bool, true, false, cond, ◌||◌}
+use mathlib.Core.List.{List, [], ◌++◌}
 use lib.Dec.{eqb, ltb}
 use lib.ListN.{length, take, drop, length-take, length-drop, length-append}
+use lib.Seq.{length-take-le}
 use borrow.Author.Tests.{le-ltb}
+use Rattle.command.specs.Counts.{IsPrefixLen}
 use Rattle.lines.specs.declared.Put.{Put}
 use Rattle.answer.specs.Stores.{cat}
 use Rattle.lines.specs.Lines.{put_with, Lines, lines_answer, text_after}
 use Rattle.tables.specs.State.{state_of}
-use Rattle.rules.specs.Rules.{Sound}
+use Rattle.rules.specs.Rules.{Sound, keeps_test}
 use Rattle.rules.proofs.Rules.{sound_test}
 use Rattle.calls.specs.Calls.{parts_in}
 use Rattle.calls.proofs.Left.{ran_left}
 use Rattle.replaying.specs.declared.Fed.{Fed}
-use Rattle.replaying.specs.Printing.{longest, lines_to, laid, print_answer, printed_parts}
+use Rattle.replaying.specs.Printing.{longest, lines_to, laid, print_answer, printed_parts, Printed}
 use Rattle.replaying.specs.Feeding.{cut_at, ripe, rest, unanswered, FedIs}
 use Rattle.replaying.proofs.Parts.{parts_are}
-use Rattle.command.specs.Ready.{Roomy, Ready}
+use Rattle.command.specs.Ready.{Roomy, Ready, Kept}
+
+-- bytes counted at the start of a buffer whose length is known
+pub counts : (n m : ℕ) (xs : List ℕ) → length xs ≡ m → n ≤ m → IsPrefixLen n xs
+counts n m xs e h =
+    let g : n ≤ length xs = omega (arith, e) in
+    (g, sym (length-take-le n xs g))
 
 -- ---- room
 
@@ -110,6 +118,23 @@ refusal_bytes line_of out {n} {most} {before} {after} {p} l e = go (ltb (length 
         let z : p.bytes ≡ length (cat line_of n) = ap (λ (x : Put). x.bytes) l.answer ∙ rw (f, g) in
         let t : after ≡ cat line_of n ++ drop (length (cat line_of n)) before = l.text ∙ rw (f, g) in
         omega (arith, z, ap length t ∙ length-append (cat line_of n) (drop (length (cat line_of n)) before))
+
+-- lengths that stay, turn by turn
+pub kept_none : (os ts ss log out text : List ℕ) → Kept os ts ss log out text os ts ss log out text
+kept_none os ts ss log out text = record { objects = refl; threads = refl; slots = refl; bytes = refl; numbers = refl; lines = refl }
+
+pub kept_more :
+    {os₀ ts₀ ss₀ log₀ out₀ text₀ os ts ss log out text os' ts' ss' log' out' text' : List ℕ} → Kept os₀ ts₀ ss₀ log₀ out₀ text₀ os ts ss log out text →
+    Kept os ts ss log out text os' ts' ss' log' out' text' → Kept os₀ ts₀ ss₀ log₀ out₀ text₀ os' ts' ss' log' out' text'
+kept_more a b =
+    record {
+      objects = b.objects ∙ a.objects;
+      threads = b.threads ∙ a.threads;
+      slots = b.slots ∙ a.slots;
+      bytes = b.bytes ∙ a.bytes;
+      numbers = b.numbers ∙ a.numbers;
+      lines = b.lines ∙ a.lines;
+    }
 
 pub status_known : (came : ℕ) {r : ℕ} → r ≡ cond (eqb came 0) 0 3 → r < 4
 status_known came {r} e = go (eqb came 0) refl

@@ -2,7 +2,10 @@ use native.Mathlib.Omega.{arith}
 use mathlib.Core.Path.{sym}
 use Prim.Native.Nat.{ℕ}
 use lib.ListN.{length-replicate}
+use Rattle.image_laws.proofs.Promises.{read_keeps}
 use Rattle.command.proofs.Laws.{roomy}
+use borrow.Author.Rules.{rules}
+use Rattle.command.proofs.every.Reads as every-reads
 use Rattle.command.proofs.in_numbers.Goals as goal
 
 pub slice_bounds-every-end : goal.slice_bounds-every-end
