@@ -4,7 +4,7 @@ use mathlib.Core.Path.{◌≡◌, sym, ◌∙◌}
 use Rattle.answer.specs.declared.Named.{Named}
 use Rattle.answer.specs.declared.Errno.{Errno}
 use Rattle.answer.proofs.number.Reads as number
-use Rattle.answer.proofs.code_of.Reads as code_of_lem
+use Rattle.answer.proofs.code_of.Reads as code-of
 use Rattle.answer.proofs.to_errno.Reads as to-errno
 
 pub number_unique :
@@ -12,7 +12,7 @@ pub number_unique :
 number_unique a r₁ r₂ s₁ s₂ p q = p ∙ sym q
 
 pub code_of_unique :
-    (a : _) (r₁ r₂ : Named) (s₁ s₂ : _) → code_of_lem.Post (tt {0}) a r₁ s₁ → code_of_lem.Post (tt {0}) a r₂ s₂ → r₁ ≡ r₂
+    (a : _) (r₁ r₂ : Named) (s₁ s₂ : _) → code-of.Post (tt {0}) a r₁ s₁ → code-of.Post (tt {0}) a r₂ s₂ → r₁ ≡ r₂
 code_of_unique a r₁ r₂ s₁ s₂ p q = p ∙ sym q
 
 pub to_errno_unique :

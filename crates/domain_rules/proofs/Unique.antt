@@ -2,7 +2,7 @@
 use mathlib.Core.Path.{◌≡◌, sym, ◌∙◌}
 use mathlib.Core.Bool.{Bool}
 use Rattle.domain_rules.proofs.attr_ok.Reads as attr-ok
-use Rattle.domain_rules.proofs.slot_ok.Reads as Slot-ok
+use Rattle.domain_rules.proofs.slot_ok.Reads as slot-ok
 use Rattle.domain_rules.proofs.is_apart.Reads as is-apart
 use Rattle.domain_rules.proofs.is_sound.Reads as is-sound
 
@@ -12,7 +12,7 @@ is_sound_unique a r₁ r₂ s₁ s₂ p q = p ∙ sym q
 pub attr_ok_unique : (a : _) (r₁ r₂ : Bool) (s₁ s₂ : _) → attr-ok.Post (tt {0}) a r₁ s₁ → attr-ok.Post (tt {0}) a r₂ s₂ → r₁ ≡ r₂
 attr_ok_unique a r₁ r₂ s₁ s₂ p q = p ∙ sym q
 
-pub slot_ok_unique : (a : _) (r₁ r₂ : Bool) (s₁ s₂ : _) → Slot-ok.Post (tt {0}) a r₁ s₁ → Slot-ok.Post (tt {0}) a r₂ s₂ → r₁ ≡ r₂
+pub slot_ok_unique : (a : _) (r₁ r₂ : Bool) (s₁ s₂ : _) → slot-ok.Post (tt {0}) a r₁ s₁ → slot-ok.Post (tt {0}) a r₂ s₂ → r₁ ≡ r₂
 slot_ok_unique a r₁ r₂ s₁ s₂ p q = p ∙ sym q
 
 pub is_apart_unique : (a : _) (r₁ r₂ : Bool) (s₁ s₂ : _) → is-apart.Post (tt {0}) a r₁ s₁ → is-apart.Post (tt {0}) a r₂ s₂ → r₁ ≡ r₂

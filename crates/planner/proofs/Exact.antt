@@ -136,7 +136,7 @@ module _ (d : MemDomain) (regions room : ℕ) where
   noplan_when s h (inl w) = unfit d regions room s h (unfit_when d.partitions w)
   noplan_when s h (inr n) = cases s h (slots_fit d.partitions) refl n
 
--- a region: exactly a size 2^(s+1) of 32 or more that divides the start (the other way is Filled's region-slot)
+-- a region: exactly a size 2^(s+1) of 32 or more that divides the start (the other way is Filled's region_slot)
 pub region_when : (p : MemPartition) (s : ℕ) → 4 ≤ s → s < 32 → 2 ^ (s + 1) ≡ p.size → p.start % p.size ≡ 0 → is_region p ≡ true
 unfolding is_region
 region_when p s l h e m = rw (field_of s p.size h e, le-leb 4 s l, eq-eqb _ _ m)

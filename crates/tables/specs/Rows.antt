@@ -1,4 +1,4 @@
--- A run of numbers stored from a place on (`sets` of lib.Seq): what stands in it, what stays outside it, and that two runs apart from each other
+-- A run of numbers stored from a place on (`sets` of std): what stands in it, what stays outside it, and that two runs apart from each other
 -- may be stored in either order. Every record of the tables is such a run, so a field that is added later costs nothing here.
 use Rattle.std.specs.Prelude.{ℕ, zero, suc, ◌+◌, ◌*◌, ◌≤◌, ◌<◌, ◌≡◌, refl, ◌≢◌, ◌⊎◌, List, [], ◌∷◌, length, get_or, set}
 use Rattle.std.proofs.Common.{le_of_suc-le-suc, not-suc-le-zero, ap, ◌∙◌, inl, inr, ⊎_elim, arith, length-set, get_or-set_same, get_or-set_other}

@@ -25,6 +25,7 @@ pub fn access_decide(public: bool, held: bool) -> bool
     public || held
 }
 
+#[tactic(auto, unfolding(crate::specs::Decide::judged))]
 pub fn validate_decide(fits: bool, allowed: bool, ready: bool, mode: i8) -> Validated
     ensures { result ≡ judged fits allowed ready (mode_of mode) }
 {

@@ -4,14 +4,6 @@ use Rattle.userspace_names.proofs.Steps.{signed}
 use Rattle.userspace_decide.proofs.Steps.{mode_else}
 use Rattle.userspace_decide.proofs.validate_decide.Goals as goal
 
-pub returns-then-not-fits : goal.returns-then-not-fits
-unfolding judged
-returns-then-not-fits c = rw c.if-not-fits.true
-
-pub returns-then-not-allowed : goal.returns-then-not-allowed
-unfolding judged
-returns-then-not-allowed c = rw (c.if-not-fits.false, c.if-not-allowed.true)
-
 pub returns-then-not-ready : goal.returns-then-not-ready
 unfolding judged
 returns-then-not-ready c = rw (c.if-not-fits.false, c.if-not-allowed.false, signed w8 _ 0 c.ranges.mode c.if-mode-eq0.true, c.if-not-ready.true)
