@@ -1,13 +1,10 @@
 -- The table of answers, line by line, and that names and numbers are each other's inverse.
-use Prim.Native.Nat.{ℕ, ◌<◌, ◌≤◌}
-use mathlib.Core.Path.{◌≡◌, refl}
-use lib.IntN.{pos, neg_ℤ}
-use native.Mathlib.Omega.{arith}
+use Rattle.std.specs.Prelude.{ℕ, ◌<◌, ◌≤◌, ◌≡◌, pos, neg_ℤ, Some, None, Err}
+use Rattle.std.proofs.Common.{refl, arith}
 use Rattle.answer.specs.Tests.{gt_eqb}
 use Rattle.answer.specs.Answer.{number_of, code_of, errno_of, known}
 use Rattle.answer.specs.declared.Code.{Code}
 use Rattle.answer.specs.declared.Code.TheVariants.{Ok, Einval, Eperm, Ebadf, Eaddrinuse, Enospc, Enoent, Short, Magic, Value, Noplan, Room, Differs}
-use Rattle.answer.specs.declared.Named.TheVariants.{Is, Nothing}
 
 pub ok_is_0 : errno_of 0 ≡ known (pos 0)
 unfolding errno_of
@@ -38,18 +35,18 @@ unfolding errno_of
 enoent_is_minus_2 = refl
 
 -- every other number is refused with EINVAL and value 0
-pub others_are_refused : (n : ℕ) → 6 < n → errno_of n ≡ record { code = 1; value = pos 0 }
+pub others_are_refused : (n : ℕ) → 6 < n → errno_of n ≡ Err Einval
 unfolding errno_of
 others_are_refused n h = simp (gt_eqb n 0 (omega arith), gt_eqb n 1 (omega arith), gt_eqb n 2 (omega arith), gt_eqb n 3 (omega arith), gt_eqb n 4 (omega arith), gt_eqb n 5 (omega arith), gt_eqb n 6 (omega arith))
 
-pub seven_is_refused : errno_of 7 ≡ record { code = 1; value = pos 0 }
+pub seven_is_refused : errno_of 7 ≡ Err Einval
 seven_is_refused = others_are_refused 7 (omega arith)
 
-pub the_largest_is_refused : errno_of 4294967295 ≡ record { code = 1; value = pos 0 }
+pub the_largest_is_refused : errno_of 4294967295 ≡ Err Einval
 the_largest_is_refused = others_are_refused 4294967295 (omega arith)
 
 -- a name's number names it again
-pub code_of_number : (c : Code) → code_of (number_of c) ≡ Is c
+pub code_of_number : (c : Code) → code_of (number_of c) ≡ Some c
 unfolding code_of
 code_of_number Ok = refl
 code_of_number Einval = refl
@@ -66,6 +63,6 @@ code_of_number Room = refl
 code_of_number Differs = refl
 
 -- the table ends at 12
-pub no_name_from_13 : (n : ℕ) → 13 ≤ n → code_of n ≡ Nothing
+pub no_name_from_13 : (n : ℕ) → 13 ≤ n → code_of n ≡ None
 unfolding code_of
 no_name_from_13 n h = simp (gt_eqb n 0 (omega arith), gt_eqb n 1 (omega arith), gt_eqb n 2 (omega arith), gt_eqb n 3 (omega arith), gt_eqb n 4 (omega arith), gt_eqb n 5 (omega arith), gt_eqb n 6 (omega arith), gt_eqb n 7 (omega arith), gt_eqb n 8 (omega arith), gt_eqb n 9 (omega arith), gt_eqb n 10 (omega arith), gt_eqb n 11 (omega arith), gt_eqb n 12 (omega arith))

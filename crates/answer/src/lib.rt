@@ -1,10 +1,13 @@
 // The answers: the thirteen numbers of docs/SPEC.md, 1, under their names, and the way back to upstream's error.rs.
-// Every other crate answers with these numbers. What is promised: `number` and `code_of` are each other's inverse on
-// 0..12, and `to_errno` gives upstream's value for 0..6 and refuses every other number.
+// A function that can refuse gives a `Result` whose error is the name; `Answer` is what a call's bytes are answered with, a number and a value. What is
+// promised: `number` and `code_of` are each other's inverse on 0..12, and `to_errno` gives upstream's value for 0..6 and refuses every other number.
 #![tactic(auto)]
 
 ghost use Rattle.std.specs.Prelude.{◌≡◌};
-ghost use Rattle.answer.specs.Answer.{number_of, code_of, errno_of};
+ghost use Rattle.answer.specs.Answer.{number_of, code_of, decoded, told, done_or, refused, errno_of};
+
+use std::error::Error;
+use std::fmt;
 
 pub const OK: u32 = 0;
 
@@ -32,8 +35,8 @@ pub const ROOM: u32 = 11;
 
 pub const DIFFERS: u32 = 12;
 
-// The same thirteen, for a `match`.
-#[derive(Clone, Copy)]
+// The same thirteen by name: `Ok`, and what a refusal says.
+#[derive(Clone, Copy, Debug, PartialEq, Eq, Hash)]
 pub enum Code {
     Ok = 0,
     Einval = 1,
@@ -50,101 +53,116 @@ pub enum Code {
     Differs = 12,
 }
 
-// What a number names: a code, or nothing.
-#[derive(Clone, Copy)]
-pub enum Named {
-    Is(Code),
-    Nothing,
+// A number from 13 on names nothing.
+#[derive(Clone, Copy, Debug, PartialEq, Eq, Hash)]
+pub struct UnknownCode {
+    pub number: u32,
 }
 
-// What most functions answer: a number of the table, and a value beside it.
-#[derive(Clone, Copy)]
+impl fmt::Display for UnknownCode {
+    fn fmt<W: fmt::Write>(&self, f: &mut fmt::Formatter<W>) -> fmt::Result {
+        write!(f, "no answer has the number {}", self.number)
+    }
+}
+
+impl Error for UnknownCode {}
+
+impl TryFrom<u32> for Code {
+    type Error = UnknownCode;
+
+    ghost try_from_gives = { λ n r. r ≡ decoded n };
+
+    #[tactic(auto, unfolding(crate::specs::Answer::code_of))]
+    fn try_from(n: u32) -> Result<Self, UnknownCode> {
+        match n {
+            OK => Ok(Code::Ok),
+            EINVAL => Ok(Code::Einval),
+            EPERM => Ok(Code::Eperm),
+            EBADF => Ok(Code::Ebadf),
+            EADDRINUSE => Ok(Code::Eaddrinuse),
+            ENOSPC => Ok(Code::Enospc),
+            ENOENT => Ok(Code::Enoent),
+            SHORT => Ok(Code::Short),
+            MAGIC => Ok(Code::Magic),
+            VALUE => Ok(Code::Value),
+            NOPLAN => Ok(Code::Noplan),
+            ROOM => Ok(Code::Room),
+            DIFFERS => Ok(Code::Differs),
+            _ => Err(UnknownCode { number: n }),
+        }
+    }
+}
+
+// What a call's bytes are answered with: a number of the table, and a value beside it. Two numbers, as a run's `out` stores them for C; a refusal has a value
+// too where it is the memory check's.
+#[derive(Clone, Copy, Debug, PartialEq, Eq, Hash)]
 pub struct Answer {
     pub code: u32,
     pub value: u32,
 }
 
-// The translation's answer: upstream's values are signed.
-#[derive(Clone, Copy)]
-pub struct Errno {
-    pub code: u32,
-    pub value: i32,
+// A refusal, with value 0.
+impl From<Code> for Answer {
+    ghost from_gives = { λ c a. a ≡ refused c };
+
+    fn from(c: Code) -> Answer {
+        Answer {
+            code: number(c),
+            value: 0,
+        }
+    }
 }
 
+// OK and the value, or a refusal.
+impl From<Result<u32, Code>> for Answer {
+    ghost from_gives = { λ r a. a ≡ told r };
+
+    fn from(r: Result<u32, Code>) -> Answer {
+        match r {
+            Ok(value) => Answer { code: OK, value },
+            Err(c) => c.into(),
+        }
+    }
+}
+
+impl From<Result<(), Code>> for Answer {
+    ghost from_gives = { λ r a. a ≡ done_or r };
+
+    fn from(r: Result<(), Code>) -> Answer {
+        match r {
+            Ok(()) => Code::Ok.into(),
+            Err(c) => c.into(),
+        }
+    }
+}
+
+// A name's number.
 pub fn number(c: Code) -> u32
     ensures { result ≡ number_of c }
 {
-    match c {
-        Code::Ok => OK,
-        Code::Einval => EINVAL,
-        Code::Eperm => EPERM,
-        Code::Ebadf => EBADF,
-        Code::Eaddrinuse => EADDRINUSE,
-        Code::Enospc => ENOSPC,
-        Code::Enoent => ENOENT,
-        Code::Short => SHORT,
-        Code::Magic => MAGIC,
-        Code::Value => VALUE,
-        Code::Noplan => NOPLAN,
-        Code::Room => ROOM,
-        Code::Differs => DIFFERS,
-    }
+    c as u32
 }
 
-pub fn code_of(n: u32) -> Named
+// A number's name.
+pub fn code_of(n: u32) -> Option<Code>
     ensures { result ≡ code_of n }
 {
-    match n {
-        0 => Named::Is(Code::Ok),
-        1 => Named::Is(Code::Einval),
-        2 => Named::Is(Code::Eperm),
-        3 => Named::Is(Code::Ebadf),
-        4 => Named::Is(Code::Eaddrinuse),
-        5 => Named::Is(Code::Enospc),
-        6 => Named::Is(Code::Enoent),
-        7 => Named::Is(Code::Short),
-        8 => Named::Is(Code::Magic),
-        9 => Named::Is(Code::Value),
-        10 => Named::Is(Code::Noplan),
-        11 => Named::Is(Code::Room),
-        12 => Named::Is(Code::Differs),
-        _ => Named::Nothing,
-    }
+    Code::try_from(n).ok()
 }
 
 // Upstream's number for an answer. Only 0 to 6 have one; what upstream never says is refused, not invented.
-pub fn to_errno(n: u32) -> Errno
+#[tactic(auto, unfolding(crate::specs::Answer::errno_of))]
+pub fn to_errno(n: u32) -> Result<i32, Code>
     ensures { result ≡ errno_of n }
 {
     match n {
-        0 => Errno { code: OK, value: 0 },
-        1 => Errno {
-            code: OK,
-            value: -22,
-        },
-        2 => Errno {
-            code: OK,
-            value: -1,
-        },
-        3 => Errno {
-            code: OK,
-            value: -9,
-        },
-        4 => Errno {
-            code: OK,
-            value: -112,
-        },
-        5 => Errno {
-            code: OK,
-            value: -28,
-        },
-        6 => Errno {
-            code: OK,
-            value: -2,
-        },
-        _ => Errno {
-            code: EINVAL,
-            value: 0,
-        },
+        OK => Ok(0),
+        EINVAL => Ok(-22),
+        EPERM => Ok(-1),
+        EBADF => Ok(-9),
+        EADDRINUSE => Ok(-112),
+        ENOSPC => Ok(-28),
+        ENOENT => Ok(-2),
+        _ => Err(Code::Einval),
     }
 }
