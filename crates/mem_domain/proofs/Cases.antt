@@ -6,10 +6,11 @@ use mathlib.Core.Path.{◌≡◌, refl, sym, ap, ◌∙◌}
 use mathlib.Core.Bool.{true, false, ◌||◌, true≢false}
 use lib.ListN.{length, set}
 use borrow.Author.Tests.{ne_eqb}
-use Rattle.answer.specs.Answer.{number_of}
+use Rattle.std.specs.Prelude.{Ok as Accepted}
+use Rattle.answer.specs.Answer.{number_of, code_in, value_in}
 use Rattle.answer.specs.declared.Code.TheVariants.{Ok, Enoent}
 use Rattle.mem_partition.specs.Partition.{is_valid, is_free, holds}
-use Rattle.mem_domain.specs.Domain.{slot_at, lowest_free, contains_addr, refused, changed_at, added, removed, got_slot, gotten}
+use Rattle.mem_domain.specs.Domain.{slot_at, lowest_free, contains_addr, refused, changed_at, added, removed, gotten}
 use Rattle.mem_partition.specs.declared.MemPartition.{MemPartition}
 use Rattle.mem_domain.specs.declared.MemDomain.{MemDomain}
 use Rattle.mem_partition.proofs.Partition.{valid_size, share_overlap, holds_active}
@@ -26,17 +27,17 @@ unfolding is_valid
 size_16_is_not attr = refl
 
 -- size 0 is ENOENT on every record, with start 0 and with every other (SPEC 3.17)
-pub remove_0_0 : (d : MemDomain) → removed d 0 0 ≡ refused (number_of Enoent) d
+pub remove_0_0 : (d : MemDomain) → removed d 0 0 ≡ refused Enoent d
 remove_0_0 d = removed_zero d 0 0 refl
 
-pub remove_size_0 : (d : MemDomain) (start : ℕ) → removed d start 0 ≡ refused (number_of Enoent) d
+pub remove_size_0 : (d : MemDomain) (start : ℕ) → removed d start 0 ≡ refused Enoent d
 remove_size_0 d start = removed_zero d start 0 refl
 
 -- after an OK add (16 slots, as the type has them)
-module _ (d : MemDomain) (p : MemPartition) (w : length d.partitions ≡ 16) (e : (added d p).code ≡ number_of Ok) where
-  value_is : (added d p).value ≡ lowest_free d.partitions
+module _ (d : MemDomain) (p : MemPartition) (w : length d.partitions ≡ 16) (e : code_in (added d p).answer ≡ number_of Ok) where
+  value_is : value_in (added d p).answer ≡ lowest_free d.partitions
   unfolding changed_at
-  value_is = ap (λ r. r.value) (add_stores d p e)
+  value_is = ap (λ r. value_in r.answer) (add_stores d p e)
 
   slots_are : (added d p).domain.partitions ≡ set d.partitions (lowest_free d.partitions) p
   unfolding changed_at
@@ -46,20 +47,20 @@ module _ (d : MemDomain) (p : MemPartition) (w : length d.partitions ≡ 16) (e 
   inside = omega (arith, free_below d.partitions (add_accepts d p e).1)
 
   -- the returned slot holds exactly the window, and every other slot stays
-  pub add_stores_window : slot_at (added d p).domain.partitions (added d p).value ≡ p
+  pub add_stores_window : slot_at (added d p).domain.partitions (value_in (added d p).answer) ≡ p
   add_stores_window = rw (slots_are, value_is) (slot_same d.partitions (lowest_free d.partitions) p inside)
 
-  pub add_leaves_others : (j : ℕ) → (j ≡ (added d p).value → ⊥) → slot_at (added d p).domain.partitions j ≡ slot_at d.partitions j
+  pub add_leaves_others : (j : ℕ) → (j ≡ (value_in (added d p).answer) → ⊥) → slot_at (added d p).domain.partitions j ≡ slot_at d.partitions j
   add_leaves_others j n = rw slots_are (slot_other d.partitions (lowest_free d.partitions) p j (λ i. n (i ∙ sym value_is)))
 
   -- get of the returned slot gives the three fields
-  pub add_then_get : gotten (added d p).domain (added d p).value ≡ got_slot p
+  pub add_then_get : gotten (added d p).domain (value_in (added d p).answer) ≡ Accepted p
   add_then_get =
       let (a, f) = add_accepts d p e in
       let b = free_below d.partitions f in
       let z = valid_size p (addable_valid d.partitions p a) in
-      gotten_ok (added d p).domain (added d p).value (rw value_is b) (ap is_free add_stores_window ∙ ne_eqb p.size 0 (λ i. omega arith))
-      ∙ ap got_slot add_stores_window
+      gotten_ok (added d p).domain (value_in (added d p).answer) (rw value_is b) (ap is_free add_stores_window ∙ ne_eqb p.size 0 (λ i. omega arith))
+      ∙ ap Accepted add_stores_window
 
   module _ (a : ℕ) where
     -- an address is in the new domain iff it was in the old one or is in the window
@@ -69,7 +70,7 @@ module _ (d : MemDomain) (p : MemPartition) (w : length d.partitions ≡ 16) (e 
         rw slots_are (contains_set d.partitions (lowest_free d.partitions) p a (free_below d.partitions f) inside (free_free d.partitions f))
 
     -- where it is in the window, no slot but the returned one holds it, so its attr is the window's; elsewhere a slot that holds it is an old one
-    only : (j : ℕ) → j < 16 → holds p a ≡ true → holds (slot_at (added d p).domain.partitions j) a ≡ true → Dec (j ≡ (added d p).value)
+    only : (j : ℕ) → j < 16 → holds p a ≡ true → holds (slot_at (added d p).domain.partitions j) a ≡ true → Dec (j ≡ (value_in (added d p).answer))
         → slot_at (added d p).domain.partitions j ≡ p
     only j b h g (yes i) = ap (slot_at (added d p).domain.partitions) i ∙ add_stores_window
     only j b h g (no n) =
@@ -82,13 +83,13 @@ module _ (d : MemDomain) (p : MemPartition) (w : length d.partitions ≡ 16) (e 
 
     pub add_attr : (j : ℕ) → j < 16 → holds p a ≡ true → holds (slot_at (added d p).domain.partitions j) a ≡ true
         → (slot_at (added d p).domain.partitions j).attr ≡ p.attr
-    add_attr j b h g = ap (λ q. q.attr) (only j b h g (ℕ_discrete j (added d p).value))
+    add_attr j b h g = ap (λ q. q.attr) (only j b h g (ℕ_discrete j (value_in (added d p).answer)))
 
-    old : (j : ℕ) → holds p a ≡ false → holds (slot_at (added d p).domain.partitions j) a ≡ true → Dec (j ≡ (added d p).value)
+    old : (j : ℕ) → holds p a ≡ false → holds (slot_at (added d p).domain.partitions j) a ≡ true → Dec (j ≡ (value_in (added d p).answer))
         → slot_at (added d p).domain.partitions j ≡ slot_at d.partitions j
     old j h g (yes i) = absurd (true≢false (sym g ∙ ap (λ q. holds q a) (ap (slot_at (added d p).domain.partitions) i ∙ add_stores_window) ∙ h))
     old j h g (no n) = add_leaves_others j n
 
     pub add_attr_elsewhere : (j : ℕ) → holds p a ≡ false → holds (slot_at (added d p).domain.partitions j) a ≡ true
         → slot_at (added d p).domain.partitions j ≡ slot_at d.partitions j
-    add_attr_elsewhere j h g = old j h g (ℕ_discrete j (added d p).value)
+    add_attr_elsewhere j h g = old j h g (ℕ_discrete j (value_in (added d p).answer))

@@ -9,7 +9,13 @@ use mathlib.Core.Bool.{Bool, true, false, true≢false}
 use mathlib.Core.Logic.{⊎_elim, by_cases}
 use lib.Dec.{ltb}
 use borrow.Author.Tests.{lt-ltb, le-ltb, ltb-true, ltb-false}
-use Rattle.mem_domain.specs.Scan.{count_to, first_from, lowest, any_to}
+use Rattle.std.specs.Prelude.{List, length, Option, Some, None, MatchOption, slice_index_or}
+use Rattle.std.specs.Bool.{MatchBool}
+use Rattle.std.specs.List.{HoldsAt, AllWithin, filter}
+use Rattle.std.specs.Prelude.{take, cond}
+use Rattle.std.proofs.lemmas.List.{take_all}
+use Rattle.std.proofs.lemmas.List.Filters.{length-filter_more}
+use Rattle.mem_domain.specs.Scan.{count_to, first_from, lowest, any_to, found}
 
 module _ (f : ℕ → Bool) where
   -- a turn at which the test passes, one at which it does not, and the end
@@ -177,3 +183,29 @@ count_gain f g (suc n) k l same p q =
     last : (b : Bool) (m : ℕ) → f m ≡ b → g m ≡ f m → count_to g m ≡ count_to f m + 1 → count_to g (suc m) ≡ count_to f (suc m) + 1
     last true m e d h = rw (← add-one m) (omega (arith, count_hit f m e, count_hit g m (d ∙ e)))
     last false m e d h = rw (← add-one m) (omega (arith, count_miss f m e, count_miss g m (d ∙ e)))
+
+-- ---- what an iterator over the slots has found, as a scan by number
+
+module _ {A : Type 0} (t : A → Bool) (l : List A) (d : A) (n : ℕ) (w : length l ≡ n) where
+  -- the test by number
+  abbrev pub at : ℕ → Bool
+  at k = t (slice_index_or l k d)
+
+  pub any_is : (r : Bool)
+      → MatchBool r ((k : ℕ) × (k < length l) × HoldsAt (λ x. t x ≡ true) l k) (AllWithin (λ x. t x ≡ false) l 0 (length l)) → r ≡ any_to at n
+  any_is true (k, h, e) = sym (any_at at n k (omega arith) (e d))
+  any_is false e = sym (any_none at n (λ k h. e k d (omega arith) (omega arith)))
+
+  pub found_is : (r : Option ℕ)
+      → MatchOption r (AllWithin (λ x. t x ≡ false) l 0 (length l)) (λ i. (i < length l) × HoldsAt (λ x. t x ≡ true) l i × AllWithin (λ x. t x ≡ false) l 0 i)
+      → r ≡ found at n
+  found_is None e = rw (any_none at n (λ k h. e k d (omega arith) (omega arith))) refl
+  found_is (Some i) (h, e, b) = rw (any_at at n i (omega arith) (e d), lowest_is at n i (omega arith) (e d) (λ j g. b j d (omega arith) g)) refl
+
+  counted_to : (i : ℕ) → i ≤ n → length (filter t (take i l)) ≡ count_to at i
+  unfolding count_to
+  counted_to zero h = refl
+  counted_to (suc i) h = rw (← add-one i) (length-filter_more t l i d (omega arith) ∙ ap (λ m. m + cond (at i) 1 0) (counted_to i (omega arith)))
+
+  pub count_is : (r : ℕ) → r ≡ length (filter t l) → r ≡ count_to at n
+  count_is r e = e ∙ ap (λ k. length (filter t k)) (sym (take_all n l (omega arith))) ∙ counted_to n (omega arith)

@@ -3,8 +3,9 @@ use Prim.Native.Nat.{ℕ}
 use mathlib.Core.Path.{◌≡◌, sym, ◌∙◌}
 use mathlib.Core.Bool.{Bool}
 use Rattle.mem_domain.specs.declared.MemDomain.{MemDomain}
-use Rattle.mem_domain.specs.declared.Changed.{Changed}
-use Rattle.mem_domain.specs.declared.Got.{Got}
+use Rattle.std.specs.Prelude.{Result}
+use Rattle.answer.specs.declared.Code.{Code}
+use Rattle.mem_partition.specs.declared.MemPartition.{MemPartition}
 use Rattle.mem_domain.proofs.MemDomain.init.Reads as init
 use Rattle.mem_domain.proofs.MemDomain.add_partition.Reads as add-partition
 use Rattle.mem_domain.proofs.MemDomain.remove_partition.Reads as remove-partition
@@ -19,12 +20,12 @@ pub init_unique :
 init_unique a r₁ r₂ s₁ s₂ p q = p ∙ sym q
 
 pub add_partition_unique :
-    (a : _) (r₁ r₂ : Changed) (s₁ s₂ : _) → add-partition.Post (tt {0}) a r₁ s₁ → add-partition.Post (tt {0}) a r₂ s₂ → r₁ ≡ r₂
-add_partition_unique a r₁ r₂ s₁ s₂ p q = p ∙ sym q
+    (κs : _) (a : _) (r₁ r₂ : Result ℕ Code) (s₁ s₂ : _) → add-partition.Post κs a r₁ s₁ → add-partition.Post κs a r₂ s₂ → (r₁ ≡ r₂) × (s₁.0.now ≡ s₂.0.now)
+add_partition_unique κs a r₁ r₂ s₁ s₂ p q = (p.0 ∙ sym q.0, p.1 ∙ sym q.1)
 
 pub remove_partition_unique :
-    (a : _) (r₁ r₂ : Changed) (s₁ s₂ : _) → remove-partition.Post (tt {0}) a r₁ s₁ → remove-partition.Post (tt {0}) a r₂ s₂ → r₁ ≡ r₂
-remove_partition_unique a r₁ r₂ s₁ s₂ p q = p ∙ sym q
+    (κs : _) (a : _) (r₁ r₂ : Result ℕ Code) (s₁ s₂ : _) → remove-partition.Post κs a r₁ s₁ → remove-partition.Post κs a r₂ s₂ → (r₁ ≡ r₂) × (s₁.0.now ≡ s₂.0.now)
+remove_partition_unique κs a r₁ r₂ s₁ s₂ p q = (p.0 ∙ sym q.0, p.1 ∙ sym q.1)
 
 pub num_partitions_get_unique :
     (a : _) (r₁ r₂ : ℕ) (s₁ s₂ : _) → num-partitions-get.Post (tt {0}) a r₁ s₁ → num-partitions-get.Post (tt {0}) a r₂ s₂ → r₁ ≡ r₂
@@ -35,7 +36,7 @@ pub counted_unique :
 counted_unique a r₁ r₂ s₁ s₂ p q = p ∙ sym q
 
 pub partition_get_unique :
-    (a : _) (r₁ r₂ : Got) (s₁ s₂ : _) → partition-get.Post (tt {0}) a r₁ s₁ → partition-get.Post (tt {0}) a r₂ s₂ → r₁ ≡ r₂
+    (a : _) (r₁ r₂ : Result MemPartition Code) (s₁ s₂ : _) → partition-get.Post (tt {0}) a r₁ s₁ → partition-get.Post (tt {0}) a r₂ s₂ → r₁ ≡ r₂
 partition_get_unique a r₁ r₂ s₁ s₂ p q = p ∙ sym q
 
 pub has_free_slot_unique :

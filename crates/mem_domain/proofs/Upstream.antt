@@ -11,15 +11,16 @@ use lib.Dec.{ltb, eqb}
 use lib.ListN.{length, set, length-set, get_or-replicate, length-replicate}
 use lib.Seq.{set-set, set-get_or}
 use borrow.Author.Tests.{lt-ltb, le-leb, eq-eqb, ne_eqb, ltb-true, eqb-true}
-use Rattle.answer.specs.Answer.{number_of}
+use Rattle.std.specs.Prelude.{Ok as Accepted}
+use Rattle.answer.specs.Answer.{number_of, code_in, value_in}
+use Rattle.answer.specs.declared.Code.{Code}
 use Rattle.answer.specs.declared.Code.TheVariants.{Ok, Einval, Enospc, Enoent}
 use Rattle.mem_partition.specs.Partition.{empty, end_of, is_valid, overlap_of, meets, is_free, is_active, holds}
-use Rattle.mem_domain.specs.Domain.{slot_at, active_count, addable, free_at, lowest_free, has_free, lowest_window, has_window, holds_at, contains_addr, no_partitions, refused, changed_at, added, removed, got_slot, gotten}
+use Rattle.mem_domain.specs.Domain.{Changed, slot_at, active_count, addable, free_at, lowest_free, has_free, lowest_window, has_window, holds_at, contains_addr, no_partitions, refused, changed_at, added, removed, gotten}
 use Rattle.mem_domain.specs.Scan.{lowest}
 use Rattle.mem_domain.specs.Upstream.{Inv, Counted, Clean}
 use Rattle.mem_partition.specs.declared.MemPartition.{MemPartition}
 use Rattle.mem_domain.specs.declared.MemDomain.{MemDomain}
-use Rattle.mem_domain.specs.declared.Changed.{Changed}
 use Rattle.mem_partition.proofs.Tests.{and_left, and_right}
 use Rattle.mem_domain.proofs.Scan.{any_at, any_hit, count_zero}
 use Rattle.mem_partition.proofs.Partition.{valid_size, valid_end, overlap_sym, apart_disjoint, active_size, size_active, active_holds}
@@ -127,7 +128,7 @@ module _ (d : MemDomain) (p : MemPartition) where
       inv_set d inv (lowest_free d.partitions) p (omega (arith, free_below d.partitions f)) (λ _. addable_valid d.partitions p e)
       (λ j b n s t. check_apart d.partitions p e j b t))
 
-  pub add_counts : Counted d → (added d p).code ≡ number_of Ok → (added d p).domain.num_partitions ≡ d.num_partitions + 1
+  pub add_counts : Counted d → code_in (added d p).answer ≡ number_of Ok → (added d p).domain.num_partitions ≡ d.num_partitions + 1
   unfolding changed_at
   add_counts c e =
       let (a, f) = add_accepts d p e in
@@ -137,41 +138,41 @@ module _ (d : MemDomain) (p : MemPartition) where
       rw (add_stores d p e, c.exact)
       (active_gain d.partitions k p b (omega arith) (free_free d.partitions f) (size_active p (valid_size p (addable_valid d.partitions p a))))
 
-  pub add_slot : (added d p).code ≡ number_of Ok → (added d p).value < 16
+  pub add_slot : code_in (added d p).answer ≡ number_of Ok → value_in (added d p).answer < 16
   unfolding changed_at
   add_slot e = let (a, f) = add_accepts d p e in rw (add_stores d p e) (free_below d.partitions f)
 
-  pub add_refusal : ((added d p).code ≡ number_of Ok → ⊥) → added d p ≡ refused (added d p).code d
+  pub add_refusal : (code_in (added d p).answer ≡ number_of Ok → ⊥) → (c : Code) × (added d p ≡ refused c d)
   unfolding changed_at
   add_refusal n = go (addable d.partitions p) (has_free d.partitions) refl refl
     where
-      go : (a f : Bool) → addable d.partitions p ≡ a → has_free d.partitions ≡ f → added d p ≡ refused (added d p).code d
-      go true true e f = absurd (n (ap (λ r. r.code) (added_ok d p e f)))
-      go true false e f = rw (added_full d p e f)
-      go false f e g = rw (added_bad d p e)
+      go : (a f : Bool) → addable d.partitions p ≡ a → has_free d.partitions ≡ f → (c : Code) × (added d p ≡ refused c d)
+      go true true e f = absurd (n (ap (λ r. code_in r.answer) (added_ok d p e f)))
+      go true false e f = (Enospc, added_full d p e f)
+      go false f e g = (Einval, added_bad d p e)
 
   -- which refusal: EINVAL for a window that is not addable, ENOSPC for an addable one where no slot is free
-  pub add_einval : ((added d p).code ≡ number_of Einval) ↔ (addable d.partitions p ≡ false)
+  pub add_einval : (code_in (added d p).answer ≡ number_of Einval) ↔ (addable d.partitions p ≡ false)
   unfolding changed_at
-  add_einval = (λ h. go (addable d.partitions p) (has_free d.partitions) refl refl h, λ e. ap (λ r. r.code) (added_bad d p e))
+  add_einval = (λ h. go (addable d.partitions p) (has_free d.partitions) refl refl h, λ e. ap (λ r. code_in r.answer) (added_bad d p e))
     where
-      go : (a f : Bool) → addable d.partitions p ≡ a → has_free d.partitions ≡ f → (added d p).code ≡ number_of Einval → addable d.partitions p ≡ false
-      go true true e f h = absurd (omega (arith, ap (λ r. r.code) (added_ok d p e f)))
-      go true false e f h = absurd (omega (arith, ap (λ r. r.code) (added_full d p e f)))
+      go : (a f : Bool) → addable d.partitions p ≡ a → has_free d.partitions ≡ f → code_in (added d p).answer ≡ number_of Einval → addable d.partitions p ≡ false
+      go true true e f h = absurd (omega (arith, ap (λ r. code_in r.answer) (added_ok d p e f)))
+      go true false e f h = absurd (omega (arith, ap (λ r. code_in r.answer) (added_full d p e f)))
       go false f e g h = e
 
-  pub add_enospc : ((added d p).code ≡ number_of Enospc) ↔ ((addable d.partitions p ≡ true) × (has_free d.partitions ≡ false))
+  pub add_enospc : (code_in (added d p).answer ≡ number_of Enospc) ↔ ((addable d.partitions p ≡ true) × (has_free d.partitions ≡ false))
   unfolding changed_at
   add_enospc = (
     λ h. go (addable d.partitions p) (has_free d.partitions) refl refl h,
-    λ (w : (addable d.partitions p ≡ true) × (has_free d.partitions ≡ false)). ap (λ r. r.code) (added_full d p w.0 w.1),
+    λ (w : (addable d.partitions p ≡ true) × (has_free d.partitions ≡ false)). ap (λ r. code_in r.answer) (added_full d p w.0 w.1),
   )
     where
-      go : (a f : Bool) → addable d.partitions p ≡ a → has_free d.partitions ≡ f → (added d p).code ≡ number_of Enospc
+      go : (a f : Bool) → addable d.partitions p ≡ a → has_free d.partitions ≡ f → code_in (added d p).answer ≡ number_of Enospc
           → (addable d.partitions p ≡ true) × (has_free d.partitions ≡ false)
-      go true true e f h = absurd (omega (arith, ap (λ r. r.code) (added_ok d p e f)))
+      go true true e f h = absurd (omega (arith, ap (λ r. code_in r.answer) (added_ok d p e f)))
       go true false e f h = (e, f)
-      go false f e g h = absurd (omega (arith, ap (λ r. r.code) (added_bad d p e)))
+      go false f e g h = absurd (omega (arith, ap (λ r. code_in r.answer) (added_bad d p e)))
 
   -- what upstream requires, a count below 16, leaves no ENOSPC where the count is right
   pub add_room : Counted d → d.num_partitions < 16 → has_free d.partitions ≡ true
@@ -220,7 +221,7 @@ module _ (d : MemDomain) (start size : ℕ) where
       inv_set d inv (lowest_window d.partitions start size) empty (omega (arith, window_below d.partitions start size f))
       (λ (z : 0 < empty.size). absurd (omega arith)) (λ j b n (z : 0 < empty.size) t. absurd (omega arith)))
 
-  pub remove_counts : Counted d → (removed d start size).code ≡ number_of Ok → (removed d start size).domain.num_partitions + 1 ≡ d.num_partitions
+  pub remove_counts : Counted d → code_in (removed d start size).answer ≡ number_of Ok → (removed d start size).domain.num_partitions + 1 ≡ d.num_partitions
   unfolding changed_at
   remove_counts c e =
       let (z, f) = remove_matches d start size e in
@@ -230,12 +231,12 @@ module _ (d : MemDomain) (start size : ℕ) where
       let live : is_active (slot_at d.partitions k) ≡ true = ap not (ap (λ n. eqb n 0) (window_size d.partitions start size f) ∙ z) in
       rw (remove_frees d start size e, c.exact) (sym (active_loss d.partitions k empty b (omega arith) live refl))
 
-  pub remove_slot : (removed d start size).code ≡ number_of Ok → (removed d start size).value < 16
+  pub remove_slot : code_in (removed d start size).answer ≡ number_of Ok → value_in (removed d start size).answer < 16
   unfolding changed_at
   remove_slot e = let (z, f) = remove_matches d start size e in rw (remove_frees d start size e) (window_below d.partitions start size f)
 
-  pub remove_freed : Counted d → (e : (removed d start size).code ≡ number_of Ok)
-      → slot_at (removed d start size).domain.partitions (removed d start size).value ≡ empty
+  pub remove_freed : Counted d → (e : code_in (removed d start size).answer ≡ number_of Ok)
+      → slot_at (removed d start size).domain.partitions (value_in (removed d start size).answer) ≡ empty
   unfolding changed_at
   remove_freed c e =
       let (z, f) = remove_matches d start size e in
@@ -244,28 +245,28 @@ module _ (d : MemDomain) (start size : ℕ) where
       let b : k < 16 = window_below d.partitions start size f in
       rw (remove_frees d start size e) (slot_same d.partitions k empty (omega arith))
 
-  pub remove_refusal : ((removed d start size).code ≡ number_of Ok → ⊥) → removed d start size ≡ refused (number_of Enoent) d
+  pub remove_refusal : (code_in (removed d start size).answer ≡ number_of Ok → ⊥) → removed d start size ≡ refused Enoent d
   unfolding changed_at
   remove_refusal n = go (eqb size 0) (has_window d.partitions start size) refl refl
     where
-      go : (z f : Bool) → eqb size 0 ≡ z → has_window d.partitions start size ≡ f → removed d start size ≡ refused (number_of Enoent) d
+      go : (z f : Bool) → eqb size 0 ≡ z → has_window d.partitions start size ≡ f → removed d start size ≡ refused Enoent d
       go true f e g = removed_zero d start size e
       go false false e f = removed_none d start size f
-      go false true e f = absurd (n (ap (λ r. r.code) (removed_ok d start size e f)))
+      go false true e f = absurd (n (ap (λ r. code_in r.answer) (removed_ok d start size e f)))
 
   -- ENOENT: the size is 0, or no slot has that start and size
-  pub remove_enoent : ((removed d start size).code ≡ number_of Enoent) ↔ ((size ≡ 0) ⊎ (has_window d.partitions start size ≡ false))
+  pub remove_enoent : (code_in (removed d start size).answer ≡ number_of Enoent) ↔ ((size ≡ 0) ⊎ (has_window d.partitions start size ≡ false))
   unfolding changed_at
   remove_enoent = (
     λ h. go (eqb size 0) (has_window d.partitions start size) refl refl h,
-    ⊎_elim (λ (z : size ≡ 0). ap (λ r. r.code) (removed_zero d start size (eq-eqb size 0 z))) (λ f. ap (λ r. r.code) (removed_none d start size f)),
+    ⊎_elim (λ (z : size ≡ 0). ap (λ r. code_in r.answer) (removed_zero d start size (eq-eqb size 0 z))) (λ f. ap (λ r. code_in r.answer) (removed_none d start size f)),
   )
     where
-      go : (z f : Bool) → eqb size 0 ≡ z → has_window d.partitions start size ≡ f → (removed d start size).code ≡ number_of Enoent
+      go : (z f : Bool) → eqb size 0 ≡ z → has_window d.partitions start size ≡ f → code_in (removed d start size).answer ≡ number_of Enoent
           → (size ≡ 0) ⊎ (has_window d.partitions start size ≡ false)
       go true f e g h = inl (eqb-true size 0 e)
       go false false e f h = inr f
-      go false true e f h = absurd (omega (arith, ap (λ r. r.code) (removed_ok d start size e f)))
+      go false true e f h = absurd (omega (arith, ap (λ r. code_in r.answer) (removed_ok d start size e f)))
 
   pub remove_counted : Counted d → Counted (removed d start size).domain
   unfolding changed_at
@@ -288,26 +289,26 @@ module _ (d : MemDomain) (start size : ℕ) where
           other ∙ c.zero i b (sym (ap is_free other) ∙ z)
 
 -- num_partitions_get and partition_get
-pub get_out : (d : MemDomain) (k : ℕ) → 16 ≤ k → (gotten d k).code ≡ number_of Einval
-get_out d k h = ap (λ r. r.code) (gotten_out d k h)
+pub get_out : (d : MemDomain) (k : ℕ) → 16 ≤ k → code_in (gotten d k) ≡ number_of Einval
+get_out d k h = ap (λ r. code_in r) (gotten_out d k h)
 
 module _ (d : MemDomain) (k : ℕ) (h : k < 16) where
-  get_is : (f : Bool) → free_at d.partitions k ≡ f → (gotten d k).code ≡ number_of Ok → (gotten d k ≡ got_slot (slot_at d.partitions k)) × (0 < (slot_at d.partitions k).size)
-  get_is true e g = absurd (omega (arith, ap (λ r. r.code) (gotten_free d k h e)))
+  get_is : (f : Bool) → free_at d.partitions k ≡ f → code_in (gotten d k) ≡ number_of Ok → (gotten d k ≡ Accepted (slot_at d.partitions k)) × (0 < (slot_at d.partitions k).size)
+  get_is true e g = absurd (omega (arith, ap (λ r. code_in r) (gotten_free d k h e)))
   get_is false e g = (gotten_ok d k h e, active_size (slot_at d.partitions k) (ap not e))
 
-  pub get_same : (gotten d k).code ≡ number_of Ok → gotten d k ≡ got_slot (slot_at d.partitions k)
+  pub get_same : code_in (gotten d k) ≡ number_of Ok → gotten d k ≡ Accepted (slot_at d.partitions k)
   get_same g = (get_is (free_at d.partitions k) refl g).0
 
-  pub get_active : (gotten d k).code ≡ number_of Ok → 0 < (slot_at d.partitions k).size
+  pub get_active : code_in (gotten d k) ≡ number_of Ok → 0 < (slot_at d.partitions k).size
   get_active g = (get_is (free_at d.partitions k) refl g).1
 
-  pub get_empty : ((gotten d k).code ≡ number_of Ok → ⊥) → (slot_at d.partitions k).size ≡ 0
+  pub get_empty : (code_in (gotten d k) ≡ number_of Ok → ⊥) → (slot_at d.partitions k).size ≡ 0
   get_empty n = go (free_at d.partitions k) refl
     where
       go : (f : Bool) → free_at d.partitions k ≡ f → (slot_at d.partitions k).size ≡ 0
       go true e = eqb-true (slot_at d.partitions k).size 0 e
-      go false e = absurd (n (ap (λ r. r.code) (gotten_ok d k h e)))
+      go false e = absurd (n (ap (λ r. code_in r) (gotten_ok d k h e)))
 
 -- has_free_slot and contains_addr, of which upstream promises nothing: some slot is free; some active slot holds the address
 pub has_free_is : (l : List MemPartition) → (has_free l ≡ true) ↔ (active_count l < 16)
@@ -361,10 +362,10 @@ reached (shrunk {d} start size r) =
 
 -- OK with a slot and a domain
 abbrev pub answered : ℕ → List MemPartition → ℕ → Changed
-answered k l n = record { code = number_of Ok; value = k; domain = record { partitions = l; num_partitions = n } }
+answered k l n = record { answer = Accepted k; domain = record { partitions = l; num_partitions = n } }
 
 -- lemma_add_remove_roundtrip, for real. Whatever the free slot held before, it is all zero afterwards; the rest is as it was.
-module _ (d : MemDomain) (p : MemPartition) (c : Counted d) (e : (added d p).code ≡ number_of Ok) where
+module _ (d : MemDomain) (p : MemPartition) (c : Counted d) (e : code_in (added d p).answer ≡ number_of Ok) where
   back : (k : ℕ) → k ≡ lowest_free d.partitions → k < 16 → k < length d.partitions → 0 < p.size
       → removed (changed_at d.partitions k p).domain p.start p.size
       ≡ answered k (set d.partitions k empty) d.num_partitions
@@ -379,7 +380,7 @@ module _ (d : MemDomain) (p : MemPartition) (c : Counted d) (e : (added d p).cod
       ∙ ap (λ j. changed_at (set l k p) j empty) again
       ∙ ap₂ (λ m n. answered k m n) (set-set l k p empty) (ap active_count (set-set l k p empty) ∙ active_kept l k empty b h free refl ∙ sym c.exact)
 
-  pub add_remove : removed (added d p).domain p.start p.size ≡ answered (added d p).value (set d.partitions (added d p).value empty) d.num_partitions
+  pub add_remove : removed (added d p).domain p.start p.size ≡ answered (value_in (added d p).answer) (set d.partitions (value_in (added d p).answer) empty) d.num_partitions
   unfolding changed_at
   add_remove =
       let (a, f) = add_accepts d p e in
@@ -388,14 +389,14 @@ module _ (d : MemDomain) (p : MemPartition) (c : Counted d) (e : (added d p).cod
       rw (add_stores d p e) (back (lowest_free d.partitions) refl b (omega arith) (valid_size p (addable_valid d.partitions p a)))
 
   -- where the free slot was all zero, as in every domain that began with init, the domain is the old one
-  pub add_remove_roundtrip : Clean d → removed (added d p).domain p.start p.size ≡ record { code = number_of Ok; value = (added d p).value; domain = d }
+  pub add_remove_roundtrip : Clean d → removed (added d p).domain p.start p.size ≡ record { answer = Accepted (value_in (added d p).answer); domain = d }
   unfolding changed_at
   add_remove_roundtrip clean =
       let l = d.partitions in
       let (a, f) = add_accepts d p e in
       let q : slot_at l (lowest_free l) ≡ empty = clean.zero (lowest_free l) (free_below l f) (free_free l f) in
-      let v : (added d p).value ≡ lowest_free l = ap (λ r. r.value) (add_stores d p e) in
-      add_remove ∙ ap (λ m. answered (added d p).value m d.num_partitions) (rw v (ap (set l (lowest_free l)) (sym q) ∙ set-get_or l (lowest_free l) empty))
+      let v : value_in (added d p).answer ≡ lowest_free l = ap (λ r. value_in r.answer) (add_stores d p e) in
+      add_remove ∙ ap (λ m. answered (value_in (added d p).answer) m d.num_partitions) (rw v (ap (set l (lowest_free l)) (sym q) ∙ set-get_or l (lowest_free l) empty))
 
 -- the other three lemmas, without upstream's premises where they are not needed
 pub overlap_symmetric : (a b : MemPartition) → overlap_of a b ≡ overlap_of b a

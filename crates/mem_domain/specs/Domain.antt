@@ -1,14 +1,12 @@
 -- Sixteen slots and a count, taken literally: docs/SPEC.md, 3.8 to 3.26. What is said of slots is said of a list of any length, so that it
 -- serves slots that come from a table too; a slot behind the list's end reads as all zero, and storing there changes nothing.
-use Rattle.std.specs.Prelude.{ℕ, Bool, cond, not, ◌&&◌, ◌||◌, List, leb, eqb, get_or, set, replicate}
-use Rattle.answer.specs.Answer.{number_of}
-use Rattle.answer.specs.declared.Code.TheVariants.{Ok, Einval, Enospc, Enoent}
+use Rattle.std.specs.Prelude.{ℕ, Bool, cond, not, ◌&&◌, ◌||◌, List, leb, eqb, get_or, set, replicate, Result, Ok, Err}
+use Rattle.answer.specs.declared.Code.{Code}
+use Rattle.answer.specs.declared.Code.TheVariants.{Einval, Enospc, Enoent}
 use Rattle.mem_domain.specs.Scan.{count_to, lowest, any_to}
 use Rattle.mem_partition.specs.Partition.{empty, is_valid, meets, overlap_of, is_free, is_active, holds, is_window}
 use Rattle.mem_partition.specs.declared.MemPartition.{MemPartition}
 use Rattle.mem_domain.specs.declared.MemDomain.{MemDomain}
-use Rattle.mem_domain.specs.declared.Changed.{Changed}
-use Rattle.mem_domain.specs.declared.Got.{Got}
 
 -- how many slots a domain has (SPEC 2.3)
 abbrev pub slots : ℕ
@@ -86,38 +84,38 @@ contains_addr l a = any_to (holds_at l a) slots
 unfoldable pub no_partitions : MemDomain
 no_partitions = record { partitions = replicate slots empty; num_partitions = 0 }
 
--- a refusal: the record as it was, and the value 0 (SPEC 3.20)
-abbrev pub refused : ℕ → MemDomain → Changed
-refused code d = record { code = code; value = 0; domain = d }
+-- what add and remove make of a record: the answer, and the record after
+pub record Changed : Type 0 where
+  pub answer : Result ℕ Code
+  pub domain : MemDomain
 
--- OK, with the slot as value: that slot alone is another, and the slots are counted again (SPEC 3.14, 3.15, 3.18, 3.19)
+-- a refusal: the record as it was (SPEC 3.20)
+abbrev pub refused : Code → MemDomain → Changed
+refused c d = record { answer = Err c; domain = d }
+
+-- slot k alone is another, and the slots are counted again
+abbrev pub stored : List MemPartition → ℕ → MemPartition → MemDomain
+stored l k p = record { partitions = set l k p; num_partitions = active_count (set l k p) }
+
+-- OK, with the slot as value (SPEC 3.14, 3.15, 3.18, 3.19)
 unfoldable pub changed_at : List MemPartition → ℕ → MemPartition → Changed
-changed_at l k p =
-    record { code = number_of Ok; value = k; domain = record { partitions = set l k p; num_partitions = active_count (set l k p) } }
+changed_at l k p = record { answer = Ok k; domain = stored l k p }
 
 -- add: EINVAL, ENOSPC, else OK, as SPEC 3.12 to 3.14 say
 unfoldable pub added : MemDomain → MemPartition → Changed
 added d p =
-    cond (not (addable d.partitions p)) (refused (number_of Einval) d) (
-    cond (not (has_free d.partitions)) (refused (number_of Enospc) d) (
+    cond (not (addable d.partitions p)) (refused Einval d) (
+    cond (not (has_free d.partitions)) (refused Enospc d) (
     changed_at d.partitions (lowest_free d.partitions) p))
 
 -- remove: ENOENT, else OK, as SPEC 3.17 and 3.18 say
 unfoldable pub removed : MemDomain → ℕ → ℕ → Changed
 removed d start size =
-    cond (eqb size 0 || not (has_window d.partitions start size)) (refused (number_of Enoent) d) (
+    cond (eqb size 0 || not (has_window d.partitions start size)) (refused Enoent d) (
     changed_at d.partitions (lowest_window d.partitions start size) empty)
 
--- a refusal's three fields are zeros
-abbrev pub got_nothing : ℕ → Got
-got_nothing code = record { code = code; start = 0; size = 0; attr = 0 }
-
--- the three fields of a slot
-abbrev pub got_slot : MemPartition → Got
-got_slot p = record { code = number_of Ok; start = p.start; size = p.size; attr = p.attr }
-
--- get: EINVAL, ENOENT, else OK, as SPEC 3.21 and 3.22 say
-unfoldable pub gotten : MemDomain → ℕ → Got
+-- get: EINVAL, ENOENT, else OK and the slot, as SPEC 3.21 and 3.22 say
+unfoldable pub gotten : MemDomain → ℕ → Result MemPartition Code
 gotten d k =
-    cond (leb slots k) (got_nothing (number_of Einval)) (
-    cond (free_at d.partitions k) (got_nothing (number_of Enoent)) (got_slot (slot_at d.partitions k)))
+    cond (leb slots k) (Err Einval) (
+    cond (free_at d.partitions k) (Err Enoent) (Ok (slot_at d.partitions k)))

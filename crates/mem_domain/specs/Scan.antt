@@ -1,5 +1,5 @@
 -- Slots read by their number: how many of the first n pass a test, which of them passes first, and whether any does (docs/SPEC.md, 2.15).
-use Rattle.std.specs.Prelude.{ℕ, zero, suc, ◌+◌, Bool, cond, ltb}
+use Rattle.std.specs.Prelude.{ℕ, zero, suc, ◌+◌, Bool, cond, ltb, Option, Some, None}
 
 -- how many numbers below n pass
 unfoldable pub count_to : (ℕ → Bool) → ℕ → ℕ
@@ -18,3 +18,7 @@ lowest f n = first_from f 0 n
 -- some number below n passes
 abbrev pub any_to : (ℕ → Bool) → ℕ → Bool
 any_to f n = ltb (lowest f n) n
+
+-- the lowest number below n that passes, if one does
+abbrev pub found : (ℕ → Bool) → ℕ → Option ℕ
+found f n = cond (any_to f n) (Some (lowest f n)) None

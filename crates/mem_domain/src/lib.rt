@@ -1,12 +1,14 @@
 // Memory domains: up to sixteen windows of addresses, upstream's mem_domain.rs. Every function takes any record literally,
-// refuses by the numbers of docs/SPEC.md, 1, instead of requiring anything, and is promised to equal its definition in specs/: so an
-// accepted window is stored as it was asked for, in the lowest free slot, and a refusal hands the same record back.
+// refuses by the names of docs/SPEC.md, 1, instead of requiring anything, and is promised to equal its definition in specs/: so an
+// accepted window is stored as it was asked for, in the lowest free slot, and a refusal leaves the record as it was.
 #![tactic(auto)]
 
 ghost use Rattle.std.specs.Prelude.{◌≡◌, ◌&&◌, ◌<◌};
-ghost use Rattle.mem_partition.specs.Partition.{is_active, meets as meets·spec, holds, is_window};
-ghost use Rattle.mem_domain.specs.Domain.{slots, active_count, with_count, crossed, addable, lowest_free, has_free, lowest_window, contains_addr, no_partitions, refused, changed_at, added, removed, got_nothing, gotten};
+ghost use Rattle.mem_partition.specs.Partition.{is_active, meets as meets·spec, holds};
+ghost use Rattle.mem_domain.specs.Scan.{found};
+ghost use Rattle.mem_domain.specs.Domain.{slots, active_count, with_count, crossed, addable, free_at, window_at, has_free, contains_addr, no_partitions, stored, added, removed, gotten};
 
+use answer::Code;
 use mem_partition::MemPartition;
 
 // Upstream's limit, and the same as a number of places.
@@ -14,120 +16,80 @@ pub const MAX_PARTITIONS: u32 = 16;
 
 const SLOTS: usize = MAX_PARTITIONS as usize;
 
-// By value: a function that changes a domain hands it back.
-#[derive(Clone, Copy)]
+#[derive(Clone, Copy, Debug, PartialEq, Eq)]
 pub struct MemDomain {
     pub partitions: [MemPartition; SLOTS],
     pub num_partitions: u32,
 }
 
-// What add and remove hand back: the answer, the slot beside it, and the domain.
-#[derive(Clone, Copy)]
-pub struct Changed {
-    pub code: u32,
-    pub value: u32,
-    pub domain: MemDomain,
-}
-
-// What get hands back: the answer, and the slot's three fields.
-#[derive(Clone, Copy)]
-pub struct Got {
-    pub code: u32,
-    pub start: u32,
-    pub size: u32,
-    pub attr: u32,
-}
-
 // Active, and overlapping a window from start up to, and without, end.
+#[tactic(auto, unfolding(mem_partition::specs::Partition::meets))]
 fn meets(p: MemPartition, start: u32, end: u32) -> bool
     ensures { result ≡ is_active p && meets·spec start end p }
 {
-    if p.size == 0 {
-        return false;
-    }
-    if p.start >= end {
-        return false;
-    }
-    (start as u64) < p.end_u64()
+    p.size != 0 && p.start < end && u64::from(start) < p.end_u64()
 }
 
 // Active, and the address is from the start on and before the end.
+#[tactic(auto, unfolding(mem_partition::specs::Partition::holds))]
 fn covers(p: MemPartition, addr: u32) -> bool
     ensures { result ≡ is_active p && holds p addr }
 {
-    if p.size == 0 {
-        return false;
-    }
-    if addr < p.start {
-        return false;
-    }
-    (addr as u64) < p.end_u64()
-}
-
-fn is_window(p: MemPartition, start: u32, size: u32) -> bool
-    ensures { result ≡ is_window start size p }
-{
-    if p.start != start {
-        return false;
-    }
-    p.size == size
+    p.size != 0 && p.start <= addr && u64::from(addr) < p.end_u64()
 }
 
 impl MemDomain {
+    #[tactic(auto, unfolding(crate::specs::Domain::no_partitions))]
     pub fn init() -> MemDomain
         ensures { result ≡ no_partitions }
     {
-        let empty = MemPartition {
-            start: 0,
-            size: 0,
-            attr: 0,
-        };
         MemDomain {
-            partitions: [empty; SLOTS],
+            partitions: [MemPartition::default(); SLOTS],
             num_partitions: 0,
         }
     }
 
-    pub fn add_partition(self, part: MemPartition) -> Changed
-        ensures { result ≡ added self part }
+    // The slot that it stands in now.
+    #[tactic(auto, unfolding(crate::specs::Domain::added, crate::specs::Domain::has_free, crate::specs::Domain::lowest_free, crate::specs::Domain::changed_at))]
+    pub fn add_partition(&mut self, part: MemPartition) -> Result<u32, Code>
+        ensures answer { result ≡ (added self.old part).answer }
+        ensures domain { self.new ≡ (added self.old part).domain }
     {
-        let ok = self.check_add_partition(part);
-        let k = self.first_free();
-        if !ok {
-            return self.refuse(answer::EINVAL);
+        if !self.check_add_partition(part) {
+            return Err(Code::Einval);
         }
-        if k >= SLOTS {
-            return self.refuse(answer::ENOSPC);
-        }
-        self.put(k, part)
+        let Some(k) = self.first_free() else {
+            return Err(Code::Enospc);
+        };
+        self.put(k, part);
+        Ok(k as u32)
     }
 
-    pub fn remove_partition(self, start: u32, size: u32) -> Changed
-        ensures { result ≡ removed self start size }
+    // The slot that it stood in.
+    #[tactic(auto, unfolding(crate::specs::Domain::removed, crate::specs::Domain::has_window, crate::specs::Domain::lowest_window, crate::specs::Domain::changed_at))]
+    pub fn remove_partition(&mut self, start: u32, size: u32) -> Result<u32, Code>
+        ensures answer { result ≡ (removed self.old start size).answer }
+        ensures domain { self.new ≡ (removed self.old start size).domain }
     {
         if size == 0 {
-            return self.refuse(answer::ENOENT);
+            return Err(Code::Enoent);
         }
-        let at = self.first_window(start, size);
-        if at >= SLOTS {
-            return self.refuse(answer::ENOENT);
-        }
-        let empty = MemPartition {
-            start: 0,
-            size: 0,
-            attr: 0,
+        let Some(k) = self.first_window(start, size) else {
+            return Err(Code::Enoent);
         };
-        self.put(at, empty)
+        self.put(k, MemPartition::default());
+        Ok(k as u32)
     }
 
     // The same slots with their count worked out anew: a domain that comes out of a table brings none.
+    #[tactic(auto, unfolding(crate::specs::Domain::with_count))]
     pub fn counted(self) -> MemDomain
         ensures { result ≡ with_count self.partitions }
     {
-        let n = self.count_active();
-        let mut next = self;
-        next.num_partitions = n;
-        next
+        MemDomain {
+            partitions: self.partitions,
+            num_partitions: self.count_active(),
+        }
     }
 
     pub fn num_partitions_get(self) -> u32
@@ -136,152 +98,74 @@ impl MemDomain {
         self.num_partitions
     }
 
-    pub fn partition_get(self, idx: u32) -> Got
+    #[tactic(auto, unfolding(crate::specs::Domain::gotten))]
+    pub fn partition_get(self, idx: u32) -> Result<MemPartition, Code>
         ensures { result ≡ gotten self idx }
     {
         if idx >= MAX_PARTITIONS {
-            return got_nothing(answer::EINVAL);
+            return Err(Code::Einval);
         }
-        let k = idx as usize;
-        let slot = self.partitions[k];
+        let slot = self.partitions[idx as usize];
         if slot.size == 0 {
-            return got_nothing(answer::ENOENT);
+            return Err(Code::Enoent);
         }
-        Got {
-            code: answer::OK,
-            start: slot.start,
-            size: slot.size,
-            attr: slot.attr,
-        }
+        Ok(slot)
     }
 
+    #[tactic(auto, unfolding(crate::specs::Domain::has_free))]
     pub fn has_free_slot(self) -> bool
         ensures { result ≡ has_free self.partitions }
     {
-        self.first_free() < SLOTS
+        self.first_free().is_some()
     }
 
     pub fn contains_addr(self, addr: u32) -> bool
         ensures { result ≡ contains_addr self.partitions addr }
     {
-        let mut k = 0;
-        while k < SLOTS {
-            let p = self.partitions[k];
-            if covers(p, addr) {
-                return true;
-            }
-            k += 1;
-        }
-        false
+        self.partitions.iter().any(|p| covers(*p, addr))
     }
 
     // The window's end is worked wide and, once the window is valid, kept as narrow as its start: the cast loses nothing.
-    fn check_add_partition(self, part: MemPartition) -> bool
-        ensures { result ≡ addable self.partitions part }
+    #[tactic(auto, using(crate::proofs::Domain::clashes_crossed, mem_partition::proofs::Partition::valid_end), unfolding(crate::specs::Domain::addable))]
+    fn check_add_partition(&self, part: MemPartition) -> bool
+        ensures { result ≡ addable self.now.partitions part }
     {
-        if !part.is_valid() {
-            return false;
-        }
-        let end = part.end_u64() as u32;
-        !self.crosses(part.start, end)
+        part.is_valid() && !self.crosses(part.start, part.end_u64() as u32)
     }
 
-    fn crosses(self, start: u32, end: u32) -> bool
-        ensures { result ≡ crossed self.partitions start end }
+    fn crosses(&self, start: u32, end: u32) -> bool
+        ensures { result ≡ crossed self.now.partitions start end }
     {
-        let mut k = 0;
-        while k < SLOTS {
-            let p = self.partitions[k];
-            if meets(p, start, end) {
-                return true;
-            }
-            k += 1;
-        }
-        false
+        self.partitions.iter().any(|p| meets(*p, start, end))
     }
 
-    fn first_free(self) -> usize
-        ensures { result ≡ lowest_free self.partitions }
+    fn first_free(&self) -> Option<usize>
+        ensures { result ≡ found (free_at self.now.partitions) slots }
     {
-        let mut slot = 0;
-        while slot < SLOTS {
-            let p = self.partitions[slot];
-            if p.size == 0 {
-                return slot;
-            }
-            slot += 1;
-        }
-        slot
+        self.partitions.iter().position(|p| p.size == 0)
     }
 
-    fn first_window(self, start: u32, size: u32) -> usize
-        ensures { result ≡ lowest_window self.partitions start size }
+    fn first_window(&self, start: u32, size: u32) -> Option<usize>
+        ensures { result ≡ found (window_at self.now.partitions start size) slots }
     {
-        let mut at = 0;
-        while at < SLOTS {
-            let p = self.partitions[at];
-            if is_window(p, start, size) {
-                return at;
-            }
-            at += 1;
-        }
-        at
+        self.partitions
+            .iter()
+            .position(|p| p.start == start && p.size == size)
     }
 
-    fn count_active(self) -> u32
-        ensures { result ≡ active_count self.partitions }
+    fn count_active(&self) -> u32
+        ensures { result ≡ active_count self.now.partitions }
     {
-        let mut n = 0;
-        let mut k = 0;
-        while k < SLOTS {
-            let p = self.partitions[k];
-            if p.size != 0 {
-                n += 1;
-            }
-            k += 1;
-        }
-        n
+        self.partitions.iter().filter(|p| p.size != 0).count() as u32
     }
 
     // Slot k becomes p, and the count is worked out anew, whatever it was.
-    fn put(self, k: usize, p: MemPartition) -> Changed
+    #[tactic(auto, unfolding(crate::specs::Domain::with_count))]
+    fn put(&mut self, k: usize, p: MemPartition)
         requires { k < slots }
-        ensures { result ≡ changed_at self.partitions k p }
+        ensures { self.new ≡ stored self.old.partitions k p }
     {
-        let stored = MemPartition {
-            start: p.start,
-            size: p.size,
-            attr: p.attr,
-        };
-        let mut next = self;
-        next.partitions[k] = stored;
-        next.num_partitions = next.count_active();
-        let value = k as u32;
-        Changed {
-            code: answer::OK,
-            value,
-            domain: next,
-        }
-    }
-
-    fn refuse(self, code: u32) -> Changed
-        ensures { result ≡ refused code self }
-    {
-        Changed {
-            code,
-            value: 0,
-            domain: self,
-        }
-    }
-}
-
-fn got_nothing(code: u32) -> Got
-    ensures { result ≡ got_nothing code }
-{
-    Got {
-        code,
-        start: 0,
-        size: 0,
-        attr: 0,
+        self.partitions[k] = p;
+        *self = self.counted();
     }
 }

@@ -5,8 +5,8 @@
 ghost use Rattle.std.specs.Prelude.{◌≡◌};
 ghost use Rattle.mem_partition.specs.Partition.{window_of, end_of, is_valid, overlap_of};
 
-// A window of addresses and its rights. Size 0 marks a free slot.
-#[derive(Clone, Copy)]
+// A window of addresses and its rights. Size 0 marks a free slot; the default is a free one, all zero.
+#[derive(Clone, Copy, Debug, Default, PartialEq, Eq, Hash)]
 pub struct MemPartition {
     pub start: u32,
     pub size: u32,
@@ -18,38 +18,39 @@ impl MemPartition {
     pub fn end_u64(self) -> u64
         ensures { result ≡ end_of self }
     {
-        let sum = self.start as u64 + self.size as u64;
-        sum
+        u64::from(self.start) + u64::from(self.size)
     }
 
+    #[tactic(auto, unfolding(crate::specs::Partition::is_valid))]
     pub fn is_valid(self) -> bool
         ensures { result ≡ is_valid self }
     {
-        if self.size > 0 {
-            return self.end_u64() <= 4294967295;
-        }
-        false
+        self.size > 0 && self.end_u64() <= u64::from(u32::MAX)
     }
 
+    #[tactic(auto, unfolding(crate::specs::Partition::meets, crate::specs::Partition::overlap_of))]
     pub fn overlaps(self, other: MemPartition) -> bool
         ensures { result ≡ overlap_of self other }
     {
-        if self.end_u64() <= other.start as u64 {
-            return false;
-        }
-        (self.start as u64) < other.end_u64()
+        u64::from(other.start) < self.end_u64() && u64::from(self.start) < other.end_u64()
+    }
+}
+
+// Upstream's windows of a bare start and size.
+fn window(start: u32, size: u32) -> MemPartition
+    ensures { result ≡ window_of start size }
+{
+    MemPartition {
+        start,
+        size,
+        attr: 0,
     }
 }
 
 pub fn partition_valid_decide(start: u32, size: u32) -> bool
     ensures { result ≡ is_valid (window_of start size) }
 {
-    let p = MemPartition {
-        start,
-        size,
-        attr: 0,
-    };
-    p.is_valid()
+    window(start, size).is_valid()
 }
 
 pub fn partitions_overlap_decide(
@@ -60,15 +61,7 @@ pub fn partitions_overlap_decide(
 ) -> bool
     ensures { result ≡ overlap_of (window_of part_start part_size) (window_of existing_start existing_size) }
 {
-    let p = MemPartition {
-        start: part_start,
-        size: part_size,
-        attr: 0,
-    };
-    let e = MemPartition {
-        start: existing_start,
-        size: existing_size,
-        attr: 0,
-    };
-    p.overlaps(e)
+    let part = window(part_start, part_size);
+    let existing = window(existing_start, existing_size);
+    part.overlaps(existing)
 }

@@ -1,34 +1,16 @@
-use native.Mathlib.Omega.{arith}
-use mathlib.Core.Path.{refl, sym, ◌∙◌}
+use Rattle.std.proofs.Common.{rules, ◌≡◌, ◌&&◌, true, false, Bool}
+use Rattle.mem_partition.specs.declared.MemPartition.{MemPartition}
+use borrow.Author.Tests.{tests}
+use Rattle.std.proofs.lemmas.Iterator.{YieldsList-from_slice, cases_from_any}
+use Rattle.mem_partition.specs.Partition.{empty, is_active, meets}
+use Rattle.mem_domain.proofs.Scan.{any_is}
+use Rattle.std.proofs.Common.{arith}
 use Rattle.mem_domain.specs.Domain.{crossed}
-use Rattle.mem_domain.proofs.Scan.{any_at, turn_miss, turn_none}
 use Rattle.mem_domain.proofs.MemDomain.crosses.Goals as goal
-
-pub loop-k-init : goal.loop-k-init
-loop-k-init c = (omega arith, refl)
-
-pub offset_bounds-self-k : goal.offset_bounds-self-k
-offset_bounds-self-k c = omega arith
-
-pub bounds-self-k : goal.bounds-self-k
-bounds-self-k c = omega arith
-
-pub meets-requires : goal.meets-requires
-meets-requires c = tt
-
-pub returns-then-meets : goal.returns-then-meets
-unfolding crossed
-returns-then-meets c = sym (any_at _ 16 _ c.loop-k-test.true (sym c.meets.ensures ∙ c.if-meets.true))
-
-pub overflow_add-k : goal.overflow_add-k
-overflow_add-k c = omega arith
-
-pub loop-k-smaller : goal.loop-k-smaller
-loop-k-smaller c = omega arith
-
-pub loop-k-preserved : goal.loop-k-preserved
-loop-k-preserved c = (omega arith, c.loop-k.invariant.1 ∙ turn_miss _ _ 16 c.loop-k-test.true (sym c.meets.ensures ∙ c.if-meets.false))
 
 pub returns : goal.returns
 unfolding crossed
-returns c = sym (turn_none _ _ 16 c.loop-k-test.false c.loop-k.invariant.1)
+returns c =
+    let test : MemPartition → Bool = λ p. is_active p && meets c.args.start c.args.end p in
+    any_is test c.args.self.now.partitions empty 16 (omega arith) _
+    (cases_from_any _ _ _ (λ p. test p ≡ true) (λ p. test p ≡ false) c.any.ensures.ran (YieldsList-from_slice _ cc) (λ x q k. search (rules, tests)) (λ x q k. search (rules, tests)))
