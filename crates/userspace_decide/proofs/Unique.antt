@@ -2,7 +2,7 @@
 use Prim.Native.Nat.{ℕ}
 use mathlib.Core.Path.{◌≡◌, sym, ◌∙◌}
 use mathlib.Core.Bool.{Bool}
-use Rattle.userspace_decide.specs.declared.Validated.{Validated}
+use Rattle.userspace_decide.specs.Decide.{Validated}
 use Rattle.userspace_decide.proofs.access_decide.Reads as access-decide
 use Rattle.userspace_decide.proofs.validate_decide.Reads as validate-decide
 use Rattle.userspace_decide.proofs.init_flags_decide.Reads as init-flags-decide

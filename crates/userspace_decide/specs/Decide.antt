@@ -1,12 +1,11 @@
 -- The flags by number, and what a validation answers of what it was told: docs/SPEC.md, 2.10 and 4.16 to 4.21.
-use Rattle.std.specs.Prelude.{ℕ, Bool, cond}
+use Rattle.std.specs.Prelude.{ℕ, Bool, cond, Result, Ok, Err, ⊤}
 use Rattle.answer.specs.declared.Answer.{Answer}
 use Rattle.answer.specs.declared.Code.TheVariants as codes
-use Rattle.answer.specs.Answer.{number_of}
+use Rattle.answer.specs.declared.Code.{Code}
+use Rattle.answer.specs.Answer.{done_or}
 use Rattle.userspace_names.specs.declared.InitCheck.{InitCheck}
 use Rattle.userspace_names.specs.declared.InitCheck.TheVariants.{MustBeInit, MustNotBeInit, DontCare}
-use Rattle.userspace_decide.specs.declared.Validated.{Validated}
-use Rattle.userspace_decide.specs.declared.Validated.TheVariants.{Ok, Refused}
 
 -- the flags by their bit: initialised is 1, bit 0
 abbrev pub INITIALISED : ℕ
@@ -24,18 +23,24 @@ ALLOC = 2
 abbrev pub DRIVER : ℕ
 DRIVER = 3
 
+-- what a validation answers: OK, or the name of a refusal
+abbrev pub Validated : Type 0
+Validated = Result ⊤ Code
+
+abbrev pub passed : Validated
+passed = Ok tt
+
 -- the number and the value that each answer of a validation stands for (SPEC 4.21)
 abbrev pub answer_of : Validated → Answer
-answer_of Ok = record { code = number_of codes.Ok; value = 0 }
-answer_of (Refused n) = record { code = n; value = 0 }
+answer_of v = done_or v
 
 -- whether the object is as the mode wants it (SPEC 4.18 to 4.20)
 abbrev pub init_judged : Bool → InitCheck → Validated
-init_judged i MustBeInit = cond i Ok (Refused (number_of codes.Einval))
-init_judged i MustNotBeInit = cond i (Refused (number_of codes.Eaddrinuse)) Ok
-init_judged i DontCare = Ok
+init_judged i MustBeInit = cond i passed (Err codes.Einval)
+init_judged i MustNotBeInit = cond i (Err codes.Eaddrinuse) passed
+init_judged i DontCare = passed
 
 -- the type is asked first, then access, then the mode (SPEC 4.16 to 4.20)
 unfoldable pub judged : Bool → Bool → Bool → InitCheck → Validated
 judged typeMatches hasAccess isInit check =
-    cond typeMatches (cond hasAccess (init_judged isInit check) (Refused (number_of codes.Eperm))) (Refused (number_of codes.Ebadf))
+    cond typeMatches (cond hasAccess (init_judged isInit check) (Err codes.Eperm)) (Err codes.Ebadf)

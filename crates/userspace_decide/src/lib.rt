@@ -7,17 +7,12 @@ ghost use Rattle.bits.specs.Bit.{set_bit, clear_bit};
 ghost use Rattle.userspace_names.specs.Names.{mode_of};
 ghost use Rattle.userspace_decide.specs.Decide.{INITIALISED, PUBLIC, judged, answer_of};
 
+use answer::Code;
+
 // The flags that upstream's decisions set and clear; the record's constants are these.
 pub const FLAG_INITIALIZED: u8 = 1;
 
 pub const FLAG_PUBLIC: u8 = 2;
-
-// Upstream's Result of a validation: the refusing case holds the table's number.
-#[derive(Clone, Copy)]
-pub enum Validated {
-    Ok,
-    Refused(u32),
-}
 
 pub fn access_decide(public: bool, held: bool) -> bool
     ensures { result ≡ (public || held) }
@@ -26,27 +21,23 @@ pub fn access_decide(public: bool, held: bool) -> bool
 }
 
 #[tactic(auto, unfolding(crate::specs::Decide::judged))]
-pub fn validate_decide(fits: bool, allowed: bool, ready: bool, mode: i8) -> Validated
+pub fn validate_decide(fits: bool, allowed: bool, ready: bool, mode: i8) -> Result<(), Code>
     ensures { result ≡ judged fits allowed ready (mode_of mode) }
 {
     if !fits {
-        return Validated::Refused(answer::EBADF);
+        return Err(Code::Ebadf);
     }
     if !allowed {
-        return Validated::Refused(answer::EPERM);
+        return Err(Code::Eperm);
     }
-    if mode == 0 {
-        if !ready {
-            return Validated::Refused(answer::EINVAL);
-        }
-    } else if mode == -1 {
-        if ready {
-            return Validated::Refused(answer::EADDRINUSE);
-        }
+    match mode {
+        0 if !ready => Err(Code::Einval),
+        -1 if ready => Err(Code::Eaddrinuse),
+        _ => Ok(()),
     }
-    Validated::Ok
 }
 
+#[tactic(auto, unfolding(bits::specs::Bit::set_bit))]
 pub fn init_flags_decide(flags: u8) -> u8
     ensures { result ≡ set_bit flags INITIALISED }
 {
@@ -65,6 +56,7 @@ pub fn recycle_flags_decide(flags: u8) -> u8
     init_flags_decide(flags)
 }
 
+#[tactic(auto, unfolding(bits::specs::Bit::set_bit))]
 pub fn make_public_flags_decide(flags: u8) -> u8
     ensures { result ≡ set_bit flags PUBLIC }
 {
@@ -72,11 +64,11 @@ pub fn make_public_flags_decide(flags: u8) -> u8
 }
 
 // The table's number of a validation's answer, for whoever answers with numbers.
-pub fn validated_number(v: Validated) -> u32
+pub fn validated_number(v: Result<(), Code>) -> u32
     ensures { result ≡ (answer_of v).code }
 {
     match v {
-        Validated::Ok => answer::OK,
-        Validated::Refused(n) => n,
+        Ok(()) => answer::OK,
+        Err(c) => answer::number(c),
     }
 }

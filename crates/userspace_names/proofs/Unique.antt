@@ -2,8 +2,9 @@
 use Prim.Native.Nat.{ℕ}
 use mathlib.Core.Path.{◌≡◌, sym, ◌∙◌}
 use lib.IntN.{ℤ}
-use Rattle.userspace_names.specs.declared.NamedType.{NamedType}
-use Rattle.userspace_names.specs.declared.NamedCheck.{NamedCheck}
+use Rattle.std.specs.Prelude.{Option}
+use Rattle.userspace_names.specs.declared.ObjType.{ObjType}
+use Rattle.userspace_names.specs.declared.InitCheck.{InitCheck}
 use Rattle.userspace_names.proofs.obj_type_number.Reads as obj-type-number
 use Rattle.userspace_names.proofs.obj_type_of.Reads as obj-type-of
 use Rattle.userspace_names.proofs.init_check_number.Reads as init-check-number
@@ -14,7 +15,7 @@ pub obj_type_number_unique :
 obj_type_number_unique a r₁ r₂ s₁ s₂ p q = p ∙ sym q
 
 pub obj_type_of_unique :
-    (a : _) (r₁ r₂ : NamedType) (s₁ s₂ : _) → obj-type-of.Post (tt {0}) a r₁ s₁ → obj-type-of.Post (tt {0}) a r₂ s₂ → r₁ ≡ r₂
+    (a : _) (r₁ r₂ : Option ObjType) (s₁ s₂ : _) → obj-type-of.Post (tt {0}) a r₁ s₁ → obj-type-of.Post (tt {0}) a r₂ s₂ → r₁ ≡ r₂
 obj_type_of_unique a r₁ r₂ s₁ s₂ p q = p ∙ sym q
 
 pub init_check_number_unique :
@@ -22,5 +23,5 @@ pub init_check_number_unique :
 init_check_number_unique a r₁ r₂ s₁ s₂ p q = p ∙ sym q
 
 pub init_check_of_unique :
-    (a : _) (r₁ r₂ : NamedCheck) (s₁ s₂ : _) → init-check-of.Post (tt {0}) a r₁ s₁ → init-check-of.Post (tt {0}) a r₂ s₂ → r₁ ≡ r₂
+    (a : _) (r₁ r₂ : Option InitCheck) (s₁ s₂ : _) → init-check-of.Post (tt {0}) a r₁ s₁ → init-check-of.Post (tt {0}) a r₂ s₂ → r₁ ≡ r₂
 init_check_of_unique a r₁ r₂ s₁ s₂ p q = p ∙ sym q

@@ -1,13 +1,11 @@
 -- The types and the modes by number and by name: docs/SPEC.md, 2.8 to 2.12 and 4.23.
-use Rattle.std.specs.Prelude.{ℕ, zero, suc, cond, ℤ, pos, negsuc, eqb}
+use Rattle.std.specs.Prelude.{ℕ, zero, suc, cond, ℤ, pos, negsuc, eqb, Option, Some, None, Result, Ok, Err}
 use Rattle.userspace_names.specs.declared.ObjType.{ObjType}
 use Rattle.userspace_names.specs.declared.ObjType.TheVariants.{Any, Thread, Sem, Mutex, CondVar, MsgQ, Stack, Pipe, Timer, Event, MemSlab, Fifo, Lifo, SysMutex, Futex, Mbox}
-use Rattle.userspace_names.specs.declared.NamedType.{NamedType}
-use Rattle.userspace_names.specs.declared.NamedType.TheVariants as types
+use Rattle.userspace_names.specs.declared.UnknownType.{UnknownType}
 use Rattle.userspace_names.specs.declared.InitCheck.{InitCheck}
 use Rattle.userspace_names.specs.declared.InitCheck.TheVariants.{MustBeInit, MustNotBeInit, DontCare}
-use Rattle.userspace_names.specs.declared.NamedCheck.{NamedCheck}
-use Rattle.userspace_names.specs.declared.NamedCheck.TheVariants as checks
+use Rattle.userspace_names.specs.declared.UnknownCheck.{UnknownCheck}
 
 -- the number of each type (SPEC 2.8)
 abbrev pub type_number : ObjType → ℕ
@@ -29,24 +27,32 @@ type_number Futex = 14
 type_number Mbox = 15
 
 -- the type of each number; from 16 on there is none (SPEC 2.9)
-unfoldable pub type_named : ℕ → NamedType
+unfoldable pub type_named : ℕ → Option ObjType
 type_named n =
-    cond (eqb n 0) (types.Is Any) (
-    cond (eqb n 1) (types.Is Thread) (
-    cond (eqb n 2) (types.Is Sem) (
-    cond (eqb n 3) (types.Is Mutex) (
-    cond (eqb n 4) (types.Is CondVar) (
-    cond (eqb n 5) (types.Is MsgQ) (
-    cond (eqb n 6) (types.Is Stack) (
-    cond (eqb n 7) (types.Is Pipe) (
-    cond (eqb n 8) (types.Is Timer) (
-    cond (eqb n 9) (types.Is Event) (
-    cond (eqb n 10) (types.Is MemSlab) (
-    cond (eqb n 11) (types.Is Fifo) (
-    cond (eqb n 12) (types.Is Lifo) (
-    cond (eqb n 13) (types.Is SysMutex) (
-    cond (eqb n 14) (types.Is Futex) (
-    cond (eqb n 15) (types.Is Mbox) (types.Nothing))))))))))))))))
+    cond (eqb n 0) (Some Any) (
+    cond (eqb n 1) (Some Thread) (
+    cond (eqb n 2) (Some Sem) (
+    cond (eqb n 3) (Some Mutex) (
+    cond (eqb n 4) (Some CondVar) (
+    cond (eqb n 5) (Some MsgQ) (
+    cond (eqb n 6) (Some Stack) (
+    cond (eqb n 7) (Some Pipe) (
+    cond (eqb n 8) (Some Timer) (
+    cond (eqb n 9) (Some Event) (
+    cond (eqb n 10) (Some MemSlab) (
+    cond (eqb n 11) (Some Fifo) (
+    cond (eqb n 12) (Some Lifo) (
+    cond (eqb n 13) (Some SysMutex) (
+    cond (eqb n 14) (Some Futex) (
+    cond (eqb n 15) (Some Mbox) None)))))))))))))))
+
+-- that type, or the number that names none
+abbrev pub type_or : ℕ → Option ObjType → Result ObjType UnknownType
+type_or n (Some t) = Ok t
+type_or n None = Err (record { number = n })
+
+abbrev pub type_decoded : ℕ → Result ObjType UnknownType
+type_decoded n = type_or n (type_named n)
 
 -- the number of each mode (SPEC 2.11)
 abbrev pub check_number : InitCheck → ℤ
@@ -55,12 +61,20 @@ check_number MustNotBeInit = negsuc 0
 check_number DontCare = pos 1
 
 -- the mode of each number; any but 0, -1 and 1 names none (SPEC 2.12)
-abbrev pub check_named : ℤ → NamedCheck
-check_named (pos zero) = checks.Is MustBeInit
-check_named (pos (suc zero)) = checks.Is DontCare
-check_named (pos (suc (suc n))) = checks.Nothing
-check_named (negsuc zero) = checks.Is MustNotBeInit
-check_named (negsuc (suc n)) = checks.Nothing
+abbrev pub check_named : ℤ → Option InitCheck
+check_named (pos zero) = Some MustBeInit
+check_named (pos (suc zero)) = Some DontCare
+check_named (pos (suc (suc n))) = None
+check_named (negsuc zero) = Some MustNotBeInit
+check_named (negsuc (suc n)) = None
+
+-- that mode, or the number that names none
+abbrev pub check_or : ℤ → Option InitCheck → Result InitCheck UnknownCheck
+check_or n (Some c) = Ok c
+check_or n None = Err (record { number = n })
+
+abbrev pub check_decoded : ℤ → Result InitCheck UnknownCheck
+check_decoded n = check_or n (check_named n)
 
 -- a raw mode, where every number stands for some mode (SPEC 4.23)
 abbrev pub mode_of : ℤ → InitCheck

@@ -3,10 +3,13 @@
 #![tactic(auto)]
 
 ghost use Rattle.std.specs.Prelude.{◌≡◌};
-ghost use Rattle.userspace_names.specs.Names.{type_number, type_named, check_number, check_named};
+ghost use Rattle.userspace_names.specs.Names.{type_number, type_named, type_decoded, check_number, check_named, check_decoded};
+
+use std::error::Error;
+use std::fmt;
 
 // What a kernel object is. A record holds the number, which may be none of these.
-#[derive(Clone, Copy)]
+#[derive(Clone, Copy, Debug, PartialEq, Eq, Hash)]
 pub enum ObjType {
     Any = 0,
     Thread = 1,
@@ -26,96 +29,106 @@ pub enum ObjType {
     Mbox = 15,
 }
 
-// What a number names: a type, or nothing.
-#[derive(Clone, Copy)]
-pub enum NamedType {
-    Is(ObjType),
-    Nothing,
+// A number from 16 on names no type.
+#[derive(Clone, Copy, Debug, PartialEq, Eq, Hash)]
+pub struct UnknownType {
+    pub number: u32,
+}
+
+impl fmt::Display for UnknownType {
+    fn fmt<W: fmt::Write>(&self, f: &mut fmt::Formatter<W>) -> fmt::Result {
+        write!(f, "no type of object has the number {}", self.number)
+    }
+}
+
+impl Error for UnknownType {}
+
+impl TryFrom<u32> for ObjType {
+    type Error = UnknownType;
+
+    ghost try_from_gives = { λ n r. r ≡ type_decoded n };
+
+    #[tactic(auto, unfolding(crate::specs::Names::type_named))]
+    fn try_from(n: u32) -> Result<Self, UnknownType> {
+        match n {
+            0 => Ok(ObjType::Any),
+            1 => Ok(ObjType::Thread),
+            2 => Ok(ObjType::Sem),
+            3 => Ok(ObjType::Mutex),
+            4 => Ok(ObjType::CondVar),
+            5 => Ok(ObjType::MsgQ),
+            6 => Ok(ObjType::Stack),
+            7 => Ok(ObjType::Pipe),
+            8 => Ok(ObjType::Timer),
+            9 => Ok(ObjType::Event),
+            10 => Ok(ObjType::MemSlab),
+            11 => Ok(ObjType::Fifo),
+            12 => Ok(ObjType::Lifo),
+            13 => Ok(ObjType::SysMutex),
+            14 => Ok(ObjType::Futex),
+            15 => Ok(ObjType::Mbox),
+            _ => Err(UnknownType { number: n }),
+        }
+    }
 }
 
 // What a validation asks of the initialised flag.
-#[derive(Clone, Copy)]
+#[derive(Clone, Copy, Debug, PartialEq, Eq, Hash)]
 pub enum InitCheck {
     MustBeInit = 0,
     MustNotBeInit = -1,
     DontCare = 1,
 }
 
-// What a number names: a mode, or nothing.
-#[derive(Clone, Copy)]
-pub enum NamedCheck {
-    Is(InitCheck),
-    Nothing,
+// A number other than 0, -1 and 1 names no mode.
+#[derive(Clone, Copy, Debug, PartialEq, Eq, Hash)]
+pub struct UnknownCheck {
+    pub number: i32,
+}
+
+impl fmt::Display for UnknownCheck {
+    fn fmt<W: fmt::Write>(&self, f: &mut fmt::Formatter<W>) -> fmt::Result {
+        write!(f, "no mode of a validation has the number {}", self.number)
+    }
+}
+
+impl Error for UnknownCheck {}
+
+impl TryFrom<i32> for InitCheck {
+    type Error = UnknownCheck;
+
+    ghost try_from_gives = { λ n r. r ≡ check_decoded n };
+
+    fn try_from(n: i32) -> Result<Self, UnknownCheck> {
+        match n {
+            0 => Ok(InitCheck::MustBeInit),
+            -1 => Ok(InitCheck::MustNotBeInit),
+            1 => Ok(InitCheck::DontCare),
+            _ => Err(UnknownCheck { number: n }),
+        }
+    }
 }
 
 pub fn obj_type_number(t: ObjType) -> u8
     ensures { result ≡ type_number t }
 {
-    match t {
-        ObjType::Any => 0,
-        ObjType::Thread => 1,
-        ObjType::Sem => 2,
-        ObjType::Mutex => 3,
-        ObjType::CondVar => 4,
-        ObjType::MsgQ => 5,
-        ObjType::Stack => 6,
-        ObjType::Pipe => 7,
-        ObjType::Timer => 8,
-        ObjType::Event => 9,
-        ObjType::MemSlab => 10,
-        ObjType::Fifo => 11,
-        ObjType::Lifo => 12,
-        ObjType::SysMutex => 13,
-        ObjType::Futex => 14,
-        ObjType::Mbox => 15,
-    }
+    t as u8
 }
 
-pub fn obj_type_of(n: u32) -> NamedType
+pub fn obj_type_of(n: u32) -> Option<ObjType>
     ensures { result ≡ type_named n }
 {
-    match n {
-        0 => NamedType::Is(ObjType::Any),
-        1 => NamedType::Is(ObjType::Thread),
-        2 => NamedType::Is(ObjType::Sem),
-        3 => NamedType::Is(ObjType::Mutex),
-        4 => NamedType::Is(ObjType::CondVar),
-        5 => NamedType::Is(ObjType::MsgQ),
-        6 => NamedType::Is(ObjType::Stack),
-        7 => NamedType::Is(ObjType::Pipe),
-        8 => NamedType::Is(ObjType::Timer),
-        9 => NamedType::Is(ObjType::Event),
-        10 => NamedType::Is(ObjType::MemSlab),
-        11 => NamedType::Is(ObjType::Fifo),
-        12 => NamedType::Is(ObjType::Lifo),
-        13 => NamedType::Is(ObjType::SysMutex),
-        14 => NamedType::Is(ObjType::Futex),
-        15 => NamedType::Is(ObjType::Mbox),
-        _ => NamedType::Nothing,
-    }
+    ObjType::try_from(n).ok()
 }
 
 pub fn init_check_number(c: InitCheck) -> i8
     ensures { result ≡ check_number c }
 {
-    match c {
-        InitCheck::MustBeInit => 0,
-        InitCheck::MustNotBeInit => -1,
-        InitCheck::DontCare => 1,
-    }
+    c as i8
 }
 
-pub fn init_check_of(n: i32) -> NamedCheck
+pub fn init_check_of(n: i32) -> Option<InitCheck>
     ensures { result ≡ check_named n }
 {
-    if n == 0 {
-        return NamedCheck::Is(InitCheck::MustBeInit);
-    }
-    if n == -1 {
-        return NamedCheck::Is(InitCheck::MustNotBeInit);
-    }
-    if n == 1 {
-        return NamedCheck::Is(InitCheck::DontCare);
-    }
-    NamedCheck::Nothing
+    InitCheck::try_from(n).ok()
 }

@@ -1,7 +1,0 @@
-use mathlib.Core.Path.{refl}
-use Rattle.bits.specs.Bit.{set_bit}
-use Rattle.userspace_decide.proofs.make_public_flags_decide.Goals as goal
-
-pub returns : goal.returns
-unfolding set_bit
-returns c = refl
