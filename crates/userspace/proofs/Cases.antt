@@ -8,10 +8,10 @@ use native.Mathlib.Omega.{arith}
 use Rattle.userspace_names.specs.declared.InitCheck.{InitCheck}
 use Rattle.userspace_names.specs.declared.InitCheck.TheVariants.{MustBeInit, MustNotBeInit, DontCare}
 use Rattle.userspace.specs.declared.KernelObject.{KernelObject}
-use Rattle.userspace_decide.specs.declared.Validated.{Validated}
-use Rattle.userspace_decide.specs.declared.Validated.TheVariants.{Ok, Refused}
+use Rattle.std.specs.Prelude.{Err}
+use Rattle.answer.specs.declared.Code.TheVariants.{Einval, Eperm, Ebadf, Eaddrinuse}
 use Rattle.bits.specs.Bit.{bit_of, is_set, set_bit, clear_bit, bit_ext, bit_shr, set_other, clear_other}
-use Rattle.userspace_decide.specs.Decide.{ALLOC, DRIVER, PUBLIC, judged}
+use Rattle.userspace_decide.specs.Decide.{Validated, passed, ALLOC, DRIVER, PUBLIC, judged}
 use Rattle.userspace.specs.Userspace.{initialised, public, holds, access, changed_at, done, refused, new_object, granted, revoked, recycled, type_fits, validated, with_word}
 use Rattle.userspace.specs.Laws.{either_way}
 use Rattle.userspace.specs.Table.{Op, step}
@@ -26,7 +26,7 @@ met MustBeInit i = i
 met MustNotBeInit i = not i
 met DontCare i = true
 
-judged_ok : (f a i : Bool) (c : InitCheck) → judged f a i c ≡ Ok ↔ ((f ≡ true) × (a ≡ true) × (met c i ≡ true))
+judged_ok : (f a i : Bool) (c : InitCheck) → judged f a i c ≡ passed ↔ ((f ≡ true) × (a ≡ true) × (met c i ≡ true))
 unfolding judged met
 judged_ok true true true MustBeInit = (λ e. (refl, refl, refl), λ p. refl)
 judged_ok true true false MustBeInit = (λ e. (refl, refl, cc), λ p. cc)
@@ -36,7 +36,7 @@ judged_ok true true i DontCare = (λ e. (refl, refl, refl), λ p. refl)
 judged_ok true false i c = (λ e. (refl, cc, cc), λ p. cc)
 judged_ok false a i c = (λ e. (cc, cc, cc), λ p. cc)
 
-judged_ebadf : (f a i : Bool) (c : InitCheck) → judged f a i c ≡ Refused 3 ↔ (f ≡ false)
+judged_ebadf : (f a i : Bool) (c : InitCheck) → judged f a i c ≡ Err Ebadf ↔ (f ≡ false)
 unfolding judged
 judged_ebadf true true true MustBeInit = (λ e. cc, λ p. cc)
 judged_ebadf true true false MustBeInit = (λ e. cc, λ p. cc)
@@ -46,7 +46,7 @@ judged_ebadf true true i DontCare = (λ e. cc, λ p. cc)
 judged_ebadf true false i c = (λ e. cc, λ p. cc)
 judged_ebadf false a i c = (λ e. refl, λ p. refl)
 
-judged_eperm : (f a i : Bool) (c : InitCheck) → judged f a i c ≡ Refused 2 ↔ ((f ≡ true) × (a ≡ false))
+judged_eperm : (f a i : Bool) (c : InitCheck) → judged f a i c ≡ Err Eperm ↔ ((f ≡ true) × (a ≡ false))
 unfolding judged
 judged_eperm true true true MustBeInit = (λ e. (refl, cc), λ p. cc)
 judged_eperm true true false MustBeInit = (λ e. (refl, cc), λ p. cc)
@@ -56,7 +56,7 @@ judged_eperm true true i DontCare = (λ e. (refl, cc), λ p. cc)
 judged_eperm true false i c = (λ e. (refl, refl), λ p. refl)
 judged_eperm false a i c = (λ e. (cc, cc), λ p. cc)
 
-judged_einval : (f a i : Bool) (c : InitCheck) → judged f a i c ≡ Refused 1 ↔ ((f ≡ true) × (a ≡ true) × (c ≡ MustBeInit) × (i ≡ false))
+judged_einval : (f a i : Bool) (c : InitCheck) → judged f a i c ≡ Err Einval ↔ ((f ≡ true) × (a ≡ true) × (c ≡ MustBeInit) × (i ≡ false))
 unfolding judged
 judged_einval true true true MustBeInit = (λ e. (refl, refl, refl, cc), λ p. cc)
 judged_einval true true false MustBeInit = (λ e. (refl, refl, refl, refl), λ p. refl)
@@ -66,7 +66,7 @@ judged_einval true true i DontCare = (λ e. (refl, refl, cc, cc), λ p. cc)
 judged_einval true false i c = (λ e. (refl, cc, cc, cc), λ p. cc)
 judged_einval false a i c = (λ e. (cc, cc, cc, cc), λ p. cc)
 
-judged_eaddrinuse : (f a i : Bool) (c : InitCheck) → judged f a i c ≡ Refused 4 ↔ ((f ≡ true) × (a ≡ true) × (c ≡ MustNotBeInit) × (i ≡ true))
+judged_eaddrinuse : (f a i : Bool) (c : InitCheck) → judged f a i c ≡ Err Eaddrinuse ↔ ((f ≡ true) × (a ≡ true) × (c ≡ MustNotBeInit) × (i ≡ true))
 unfolding judged
 judged_eaddrinuse true true true MustBeInit = (λ e. (refl, refl, cc, cc), λ p. cc)
 judged_eaddrinuse true true false MustBeInit = (λ e. (refl, refl, cc, cc), λ p. cc)
@@ -77,23 +77,23 @@ judged_eaddrinuse true false i c = (λ e. (refl, cc, cc, cc), λ p. cc)
 judged_eaddrinuse false a i c = (λ e. (cc, cc, cc, cc), λ p. cc)
 
 module _ (o : KernelObject) (e t : ℕ) (s : Bool) (c : InitCheck) where
-  pub validate_ok_iff : validated o e t s c ≡ Ok ↔ ((type_fits e o.obj_type ≡ true) × (access o t s ≡ true) × (met c (initialised o) ≡ true))
+  pub validate_ok_iff : validated o e t s c ≡ passed ↔ ((type_fits e o.obj_type ≡ true) × (access o t s ≡ true) × (met c (initialised o) ≡ true))
   unfolding validated
   validate_ok_iff = judged_ok _ _ _ c
 
-  pub validate_ebadf_iff : validated o e t s c ≡ Refused 3 ↔ (type_fits e o.obj_type ≡ false)
+  pub validate_ebadf_iff : validated o e t s c ≡ Err Ebadf ↔ (type_fits e o.obj_type ≡ false)
   unfolding validated
   validate_ebadf_iff = judged_ebadf _ _ _ c
 
-  pub validate_eperm_iff : validated o e t s c ≡ Refused 2 ↔ ((type_fits e o.obj_type ≡ true) × (access o t s ≡ false))
+  pub validate_eperm_iff : validated o e t s c ≡ Err Eperm ↔ ((type_fits e o.obj_type ≡ true) × (access o t s ≡ false))
   unfolding validated
   validate_eperm_iff = judged_eperm _ _ _ c
 
-  pub validate_einval_iff : validated o e t s c ≡ Refused 1 ↔ ((type_fits e o.obj_type ≡ true) × (access o t s ≡ true) × (c ≡ MustBeInit) × (initialised o ≡ false))
+  pub validate_einval_iff : validated o e t s c ≡ Err Einval ↔ ((type_fits e o.obj_type ≡ true) × (access o t s ≡ true) × (c ≡ MustBeInit) × (initialised o ≡ false))
   unfolding validated
   validate_einval_iff = judged_einval _ _ _ c
 
-  pub validate_eaddrinuse_iff : validated o e t s c ≡ Refused 4 ↔ ((type_fits e o.obj_type ≡ true) × (access o t s ≡ true) × (c ≡ MustNotBeInit) × (initialised o ≡ true))
+  pub validate_eaddrinuse_iff : validated o e t s c ≡ Err Eaddrinuse ↔ ((type_fits e o.obj_type ≡ true) × (access o t s ≡ true) × (c ≡ MustNotBeInit) × (initialised o ≡ true))
   unfolding validated
   validate_eaddrinuse_iff = judged_eaddrinuse _ _ _ c
 
@@ -159,11 +159,11 @@ pub grant_at_the_largest : (o : KernelObject) → granted o 4294967295 ≡ refus
 grant_at_the_largest o = grant_refuses o 4294967295 (lit≤ tt)
 
 -- a leaf with refusals alone fails: a supervisor's validate of any record, type Any and mode either, is OK and nothing else (SPEC 4.22)
-pub always_refusing_fails : (o : KernelObject) (t : ℕ) (r : Validated) (s : _) → validate.Post (tt {0}) (o, (0, (t, (true, (DontCare, tt))))) r s → r ≡ Ok
+pub always_refusing_fails : (o : KernelObject) (t : ℕ) (r : Validated) (s : _) → validate.Post (tt {0}) (o, (0, (t, (true, (DontCare, tt))))) r s → r ≡ passed
 unfolding validated judged type_fits access
 always_refusing_fails o t r s p = p
 
 -- one with OK alone fails: the same for a thread that is no supervisor and has no bit, of a record that is not public, is EPERM
-pub always_ok_fails : (o : KernelObject) (t : ℕ) (r : Validated) (s : _) → public o ≡ false → holds o t ≡ false → validate.Post (tt {0}) (o, (0, (t, (false, (DontCare, tt))))) r s → r ≡ Refused 2
+pub always_ok_fails : (o : KernelObject) (t : ℕ) (r : Validated) (s : _) → public o ≡ false → holds o t ≡ false → validate.Post (tt {0}) (o, (0, (t, (false, (DontCare, tt))))) r s → r ≡ Err Eperm
 unfolding validated judged type_fits
 always_ok_fails o t r s e h p = p ∙ rw (access_bit o t e ∙ h)

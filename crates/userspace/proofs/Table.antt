@@ -16,12 +16,12 @@ use Rattle.answer.specs.declared.Answer.{Answer}
 use Rattle.userspace_names.specs.declared.InitCheck.{InitCheck}
 use Rattle.userspace_names.specs.declared.InitCheck.TheVariants.{MustBeInit, MustNotBeInit, DontCare}
 use Rattle.userspace.specs.declared.KernelObject.{KernelObject}
-use Rattle.userspace_decide.specs.declared.Validated.{Validated}
-use Rattle.userspace_decide.specs.declared.Validated.TheVariants.{Refused}
-use Rattle.bits.specs.Bit.{bit_of, is_set, set_bit, clear_bit, is_set_same, is_set_other, is_clear_same, is_clear_other, is_zero, is_bit, bit_is, bit_shr, lowest, half_bit, bit_ext, bit_ext_below}
-use Rattle.userspace_decide.specs.Decide.{judged, answer_of}
-use Rattle.userspace.specs.Userspace.{THREADS, granted, revoked, recycled, cleared_all, initiated, uninitiated, published, new_object, with_word, changed_at, access, holds, validated, type_fits, bit_answer}
-use Rattle.userspace.specs.Table.{Table, Did, with_perms, becomes_t, tells_t, says, gives, blank, unless, new_t, grant_t, revoke_t, clear_all_t, init_t, uninit_t, public_t, recycle_t, check_t, validate_t, init_check_t, has_perm_t, entries, perms_of, word_of, table_of, did_of, Op, step, step_t, after, after_t, heard, heard_t}
+use Rattle.std.specs.Prelude.{Err}
+use Rattle.answer.specs.declared.Code.TheVariants.{Ebadf, Eperm}
+use Rattle.bits.specs.Bit.{bit_of, is_set, set_bit, clear_bit, is_set_same, is_set_other, is_clear_same, is_clear_other, is_zero, is_bit, bit_shr, lowest, half_bit, bit_ext, bit_ext_below}
+use Rattle.userspace_decide.specs.Decide.{Validated, judged, answer_of}
+use Rattle.userspace.specs.Userspace.{THREADS, granted, revoked, recycled, cleared_all, initiated, uninitiated, published, new_object, with_word, changed_at, access, holds, validated, type_fits, bit_answer, bit_told, done, refused}
+use Rattle.userspace.specs.Table.{Table, Did, with_perms, becomes_t, tells_t, says, blank, unless, new_t, grant_t, revoke_t, clear_all_t, init_t, uninit_t, public_t, recycle_t, check_t, validate_t, init_check_t, has_perm_t, entries, perms_of, word_of, table_of, step_of, did_of, Op, step, step_t, after, after_t, heard, heard_t}
 
 -- ---- entries
 
@@ -70,11 +70,11 @@ perms_clear w t h = put w (clear_bit w t) t false h (is_clear_same w t) (is_clea
 -- ---- each operation, step for step
 
 -- the refusal of a thread is upstream's, and what it refuses changes nothing
-at : (t : ℕ) (o p : KernelObject) (u : Table) → (t < THREADS → table_of p ≡ u) → did_of (changed_at t o p) ≡ unless t (table_of o) u
+at : (t : ℕ) (o p : KernelObject) (u : Table) → (t < THREADS → table_of p ≡ u) → did_of (step_of (changed_at t o p)) ≡ unless t (table_of o) u
 unfolding changed_at
 at t o p u f = go (dec_lt t THREADS)
   where
-    go : Dec (t < THREADS) → did_of (cond (ltb t THREADS) (record { code = 0; value = 0; object = p }) (record { code = 1; value = 0; object = o })) ≡ unless t (table_of o) u
+    go : Dec (t < THREADS) → did_of (step_of (cond (ltb t THREADS) (done p) (refused o))) ≡ unless t (table_of o) u
     go (yes h) = simp (lt-ltb t THREADS h, lt-leb THREADS t h, f h)
     go (no g) = let h : THREADS ≤ t = omega arith in simp (le-ltb t THREADS h, le-leb THREADS t h)
 
@@ -87,11 +87,11 @@ worded : (o : KernelObject) (w : ℕ) (l : List Bool) → perms_of w ≡ l → t
 unfolding table_of
 worded o w l e = ap (with_perms (table_of o)) e
 
-pub grant_step : (o : KernelObject) (t : ℕ) → did_of (granted o t) ≡ grant_t (table_of o) t
+pub grant_step : (o : KernelObject) (t : ℕ) → did_of (step_of (granted o t)) ≡ grant_t (table_of o) t
 unfolding granted table_of
 grant_step o t = at t o _ _ (λ h. worded o _ _ (perms_set o.word t h))
 
-pub revoke_step : (o : KernelObject) (t : ℕ) → did_of (revoked o t) ≡ revoke_t (table_of o) t
+pub revoke_step : (o : KernelObject) (t : ℕ) → did_of (step_of (revoked o t)) ≡ revoke_t (table_of o) t
 unfolding revoked table_of
 revoke_step o t = at t o _ _ (λ h. worded o _ _ (perms_clear o.word t h))
 
@@ -111,7 +111,7 @@ pub make_public_step : (o : KernelObject) → table_of (published o) ≡ public_
 unfolding table_of
 make_public_step o = simp (is_set_same o.flags 1, is_set_other o.flags 1 0 (λ e. omega arith), is_set_other o.flags 1 2 (λ e. omega arith), is_set_other o.flags 1 3 (λ e. omega arith))
 
-pub recycle_step : (o : KernelObject) (t : ℕ) → did_of (recycled o t) ≡ recycle_t (table_of o) t
+pub recycle_step : (o : KernelObject) (t : ℕ) → did_of (step_of (recycled o t)) ≡ recycle_t (table_of o) t
 unfolding recycled
 recycle_step o t = at t o _ _ (λ h.
     worded (initiated o) _ _ (perms_set 0 t h ∙ ap (λ (l : List Bool). set l t true) perms_none)
@@ -141,7 +141,7 @@ same_type : (b c : Bool) → (b || c) ≡ cond b true c
 same_type true c = refl
 same_type false c = refl
 
-same_judgement : (f a i : Bool) (c : InitCheck) → judged f a i c ≡ cond (not f) (Refused 3) (cond (not a) (Refused 2) (init_check_t c i))
+same_judgement : (f a i : Bool) (c : InitCheck) → judged f a i c ≡ cond (not f) (Err Ebadf) (cond (not a) (Err Eperm) (init_check_t c i))
 unfolding judged
 same_judgement false a i c = refl
 same_judgement true false i c = refl
@@ -154,17 +154,17 @@ pub validate_step : (o : KernelObject) (e t : ℕ) (s : Bool) (c : InitCheck) �
 unfolding validated table_of type_fits
 validate_step o e t s c =
     same_judgement (eqb e 0 || eqb e o.obj_type) (access o t s) (is_set o.flags 0) c
-    ∙ ap₂ (λ (f a : Bool). cond (not f) (Refused 3) (cond (not a) (Refused 2) (init_check_t c (is_set o.flags 0)))) (same_type (eqb e 0) (eqb e o.obj_type)) (check_access_step o t s)
+    ∙ ap₂ (λ (f a : Bool). cond (not f) (Err Ebadf) (cond (not a) (Err Eperm) (init_check_t c (is_set o.flags 0)))) (same_type (eqb e 0) (eqb e o.obj_type)) (check_access_step o t s)
 
-pub has_perm_step : (o : KernelObject) (t : ℕ) → bit_answer o t ≡ has_perm_t (table_of o) t
+pub has_perm_step : (o : KernelObject) (t : ℕ) → bit_told (bit_answer o t) ≡ has_perm_t (table_of o) t
 unfolding bit_answer table_of
 has_perm_step o t = go (dec_lt t THREADS)
   where
-    yes_or_no : t < THREADS → bit_of o.word t ≡ cond (get_or (perms_of o.word) t false) 1 0
-    yes_or_no h = bit_is o.word t ∙ ap (λ (b : Bool). cond b 1 0) (sym (perms_at o.word t h))
+    yes_or_no : t < THREADS → is_set o.word t ≡ get_or (perms_of o.word) t false
+    yes_or_no h = sym (perms_at o.word t h)
 
-    go : Dec (t < THREADS) → bit_answer o t ≡ has_perm_t (table_of o) t
-    go (yes h) = simp (lt-ltb t THREADS h, lt-leb THREADS t h) (ap gives (yes_or_no h))
+    go : Dec (t < THREADS) → bit_told (bit_answer o t) ≡ has_perm_t (table_of o) t
+    go (yes h) = simp (lt-ltb t THREADS h, lt-leb THREADS t h) (ap says (yes_or_no h))
     go (no g) = let h : THREADS ≤ t = omega arith in simp (le-ltb t THREADS h, le-leb THREADS t h)
 
 -- ---- the table determines the word, and with the further flag bits the record

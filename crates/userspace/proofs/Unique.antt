@@ -2,10 +2,10 @@
 use Prim.Native.Nat.{ℕ}
 use mathlib.Core.Path.{◌≡◌, sym, ◌∙◌}
 use mathlib.Core.Bool.{Bool}
-use Rattle.answer.specs.declared.Answer.{Answer}
 use Rattle.userspace.specs.declared.KernelObject.{KernelObject}
-use Rattle.userspace.specs.declared.Changed.{Changed}
-use Rattle.userspace_decide.specs.declared.Validated.{Validated}
+use Rattle.std.specs.Prelude.{Result, ⊤}
+use Rattle.answer.specs.declared.Code.{Code}
+use Rattle.userspace_decide.specs.Decide.{Validated}
 use Rattle.userspace.proofs.KernelObject.new.Reads as new
 use Rattle.userspace.proofs.KernelObject.grant_access.Reads as grant-access
 use Rattle.userspace.proofs.KernelObject.revoke_access.Reads as revoke-access
@@ -29,20 +29,20 @@ pub new_unique :
 new_unique a r₁ r₂ s₁ s₂ p q = p ∙ sym q
 
 pub grant_access_unique :
-    (a : _) (r₁ r₂ : Changed) (s₁ s₂ : _) → grant-access.Post (tt {0}) a r₁ s₁ → grant-access.Post (tt {0}) a r₂ s₂ → r₁ ≡ r₂
-grant_access_unique a r₁ r₂ s₁ s₂ p q = p ∙ sym q
+    (κs : _) (a : _) (r₁ r₂ : Result ⊤ Code) (s₁ s₂ : _) → grant-access.Post κs a r₁ s₁ → grant-access.Post κs a r₂ s₂ → (r₁ ≡ r₂) × (s₁.0.now ≡ s₂.0.now)
+grant_access_unique κs a r₁ r₂ s₁ s₂ p q = (p.0 ∙ sym q.0, p.1 ∙ sym q.1)
 
 pub revoke_access_unique :
-    (a : _) (r₁ r₂ : Changed) (s₁ s₂ : _) → revoke-access.Post (tt {0}) a r₁ s₁ → revoke-access.Post (tt {0}) a r₂ s₂ → r₁ ≡ r₂
-revoke_access_unique a r₁ r₂ s₁ s₂ p q = p ∙ sym q
+    (κs : _) (a : _) (r₁ r₂ : Result ⊤ Code) (s₁ s₂ : _) → revoke-access.Post κs a r₁ s₁ → revoke-access.Post κs a r₂ s₂ → (r₁ ≡ r₂) × (s₁.0.now ≡ s₂.0.now)
+revoke_access_unique κs a r₁ r₂ s₁ s₂ p q = (p.0 ∙ sym q.0, p.1 ∙ sym q.1)
 
 pub clear_thread_perm_unique :
-    (a : _) (r₁ r₂ : Changed) (s₁ s₂ : _) → clear-thread-perm.Post (tt {0}) a r₁ s₁ → clear-thread-perm.Post (tt {0}) a r₂ s₂ → r₁ ≡ r₂
-clear_thread_perm_unique a r₁ r₂ s₁ s₂ p q = p ∙ sym q
+    (κs : _) (a : _) (r₁ r₂ : Result ⊤ Code) (s₁ s₂ : _) → clear-thread-perm.Post κs a r₁ s₁ → clear-thread-perm.Post κs a r₂ s₂ → (r₁ ≡ r₂) × (s₁.0.now ≡ s₂.0.now)
+clear_thread_perm_unique κs a r₁ r₂ s₁ s₂ p q = (p.0 ∙ sym q.0, p.1 ∙ sym q.1)
 
 pub clear_all_perms_unique :
-    (a : _) (r₁ r₂ : KernelObject) (s₁ s₂ : _) → clear-all-perms.Post (tt {0}) a r₁ s₁ → clear-all-perms.Post (tt {0}) a r₂ s₂ → r₁ ≡ r₂
-clear_all_perms_unique a r₁ r₂ s₁ s₂ p q = p ∙ sym q
+    (κs : _) (a : _) (r₁ r₂ : ⊤) (s₁ s₂ : _) → clear-all-perms.Post κs a r₁ s₁ → clear-all-perms.Post κs a r₂ s₂ → s₁.0.now ≡ s₂.0.now
+clear_all_perms_unique κs a r₁ r₂ s₁ s₂ p q = p ∙ sym q
 
 pub check_access_unique :
     (a : _) (r₁ r₂ : Bool) (s₁ s₂ : _) → check-access.Post (tt {0}) a r₁ s₁ → check-access.Post (tt {0}) a r₂ s₂ → r₁ ≡ r₂
@@ -53,20 +53,20 @@ pub validate_unique :
 validate_unique a r₁ r₂ s₁ s₂ p q = p ∙ sym q
 
 pub init_object_unique :
-    (a : _) (r₁ r₂ : KernelObject) (s₁ s₂ : _) → init-object.Post (tt {0}) a r₁ s₁ → init-object.Post (tt {0}) a r₂ s₂ → r₁ ≡ r₂
-init_object_unique a r₁ r₂ s₁ s₂ p q = p ∙ sym q
+    (κs : _) (a : _) (r₁ r₂ : ⊤) (s₁ s₂ : _) → init-object.Post κs a r₁ s₁ → init-object.Post κs a r₂ s₂ → s₁.0.now ≡ s₂.0.now
+init_object_unique κs a r₁ r₂ s₁ s₂ p q = p ∙ sym q
 
 pub uninit_object_unique :
-    (a : _) (r₁ r₂ : KernelObject) (s₁ s₂ : _) → uninit-object.Post (tt {0}) a r₁ s₁ → uninit-object.Post (tt {0}) a r₂ s₂ → r₁ ≡ r₂
-uninit_object_unique a r₁ r₂ s₁ s₂ p q = p ∙ sym q
+    (κs : _) (a : _) (r₁ r₂ : ⊤) (s₁ s₂ : _) → uninit-object.Post κs a r₁ s₁ → uninit-object.Post κs a r₂ s₂ → s₁.0.now ≡ s₂.0.now
+uninit_object_unique κs a r₁ r₂ s₁ s₂ p q = p ∙ sym q
 
 pub recycle_unique :
-    (a : _) (r₁ r₂ : Changed) (s₁ s₂ : _) → recycle.Post (tt {0}) a r₁ s₁ → recycle.Post (tt {0}) a r₂ s₂ → r₁ ≡ r₂
-recycle_unique a r₁ r₂ s₁ s₂ p q = p ∙ sym q
+    (κs : _) (a : _) (r₁ r₂ : Result ⊤ Code) (s₁ s₂ : _) → recycle.Post κs a r₁ s₁ → recycle.Post κs a r₂ s₂ → (r₁ ≡ r₂) × (s₁.0.now ≡ s₂.0.now)
+recycle_unique κs a r₁ r₂ s₁ s₂ p q = (p.0 ∙ sym q.0, p.1 ∙ sym q.1)
 
 pub make_public_unique :
-    (a : _) (r₁ r₂ : KernelObject) (s₁ s₂ : _) → make-public.Post (tt {0}) a r₁ s₁ → make-public.Post (tt {0}) a r₂ s₂ → r₁ ≡ r₂
-make_public_unique a r₁ r₂ s₁ s₂ p q = p ∙ sym q
+    (κs : _) (a : _) (r₁ r₂ : ⊤) (s₁ s₂ : _) → make-public.Post κs a r₁ s₁ → make-public.Post κs a r₂ s₂ → s₁.0.now ≡ s₂.0.now
+make_public_unique κs a r₁ r₂ s₁ s₂ p q = p ∙ sym q
 
 pub is_initialized_unique :
     (a : _) (r₁ r₂ : Bool) (s₁ s₂ : _) → is-initialized.Post (tt {0}) a r₁ s₁ → is-initialized.Post (tt {0}) a r₂ s₂ → r₁ ≡ r₂
@@ -85,7 +85,7 @@ pub is_driver_unique :
 is_driver_unique a r₁ r₂ s₁ s₂ p q = p ∙ sym q
 
 pub has_perm_unique :
-    (a : _) (r₁ r₂ : Answer) (s₁ s₂ : _) → has-perm.Post (tt {0}) a r₁ s₁ → has-perm.Post (tt {0}) a r₂ s₂ → r₁ ≡ r₂
+    (a : _) (r₁ r₂ : Result Bool Code) (s₁ s₂ : _) → has-perm.Post (tt {0}) a r₁ s₁ → has-perm.Post (tt {0}) a r₂ s₂ → r₁ ≡ r₂
 has_perm_unique a r₁ r₂ s₁ s₂ p q = p ∙ sym q
 
 pub obj_type_get_unique :

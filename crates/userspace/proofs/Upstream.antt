@@ -3,7 +3,7 @@
 use Prim.Native.Nat.{ℕ, ◌-◌, ◌*◌, ◌^◌, ◌<◌, ◌≤◌, min}
 use mathlib.Core.Path.{◌≡◌, refl, sym, ap, ◌∙◌}
 use mathlib.Core.Logic.{◌≢◌, ◌⊎◌, inl, inr}
-use mathlib.Core.Bool.{Bool, true, false, cond, ◌&&◌, ◌||◌, or-true, and-false}
+use mathlib.Core.Bool.{Bool, true, false, ◌&&◌, ◌||◌, or-true, and-false}
 use lib.Dec.{ltb, eqb, lit<}
 use lib.Bits.{bit_and, bit_or}
 use native.Mathlib.Decide.{dec_lt, ℕ_discrete}
@@ -13,17 +13,17 @@ use borrow.Author.Tests.{lt-ltb, le-ltb, eq-eqb, ne_eqb, eqb-true}
 use Rattle.answer.specs.Tests.{gt_eqb}
 use Rattle.userspace_names.specs.declared.ObjType.{ObjType}
 use Rattle.userspace_names.specs.declared.ObjType.TheVariants.{Any, Thread, Sem, Mutex, CondVar, MsgQ, Stack, Pipe, Timer, Event, MemSlab, Fifo, Lifo, SysMutex, Futex, Mbox}
-use Rattle.userspace_names.specs.declared.NamedType.TheVariants as types
-use Rattle.userspace_names.specs.declared.NamedCheck.TheVariants as checks
+use Rattle.std.specs.Prelude.{Some, None}
 use Rattle.userspace_names.specs.declared.InitCheck.{InitCheck}
 use Rattle.userspace_names.specs.declared.InitCheck.TheVariants.{MustBeInit, MustNotBeInit, DontCare}
 use Rattle.userspace.specs.declared.KernelObject.{KernelObject}
-use Rattle.userspace.specs.declared.Changed.{Changed}
-use Rattle.userspace_decide.specs.declared.Validated.TheVariants.{Ok, Refused}
-use Rattle.bits.specs.Bit.{bit_of, is_set, set_bit, clear_bit, bit_lt, set_same, set_other, clear_same, clear_other, is_set_same, is_set_other, is_clear_same, is_clear_other, is_zero, is_bit, bit_is, bit_ext, bit_ext_below, and_one, clear_mask, bit_and_lem, set_lt, clear_lt}
+use Rattle.std.specs.Prelude.{Ok, Err}
+use Rattle.answer.specs.declared.Code.TheVariants.{Einval, Eperm, Ebadf}
+use Rattle.answer.specs.Answer.{code_in}
+use Rattle.bits.specs.Bit.{bit_of, is_set, set_bit, clear_bit, bit_lt, set_same, set_other, clear_same, clear_other, is_set_same, is_set_other, is_clear_same, is_clear_other, is_zero, is_bit, bit_ext, bit_ext_below, and_one, clear_mask, bit_and_lem, set_lt, clear_lt}
 use Rattle.userspace_names.specs.Names.{type_number, type_named, check_number, check_named}
-use Rattle.userspace_decide.specs.Decide.{INITIALISED, PUBLIC, ALLOC, DRIVER, judged}
-use Rattle.userspace.specs.Userspace.{THREADS, initialised, public, holds, access, changed_at, done, refused, new_object, granted, revoked, cleared_all, recycled, initiated, uninitiated, published, bit_answer, type_fits, validated, with_word}
+use Rattle.userspace_decide.specs.Decide.{passed, INITIALISED, PUBLIC, ALLOC, DRIVER, judged}
+use Rattle.userspace.specs.Userspace.{Changed, THREADS, initialised, public, holds, access, changed_at, done, refused, new_object, granted, revoked, cleared_all, recycled, initiated, uninitiated, published, bit_answer, type_fits, validated, with_word}
 use Rattle.userspace.specs.Laws.{refuses, does, either_way}
 use Rattle.userspace.specs.Table.{Op, step}
 
@@ -36,7 +36,7 @@ pub flag_numbers : (2 ^ INITIALISED ≡ 1) × (2 ^ PUBLIC ≡ 2) × (2 ^ ALLOC �
 flag_numbers = (refl, refl, refl, refl)
 
 -- a type's number names it again, and the table of types ends at 15
-pub type_of_number : (t : ObjType) → type_named (type_number t) ≡ types.Is t
+pub type_of_number : (t : ObjType) → type_named (type_number t) ≡ Some t
 unfolding type_named
 type_of_number Any = refl
 type_of_number Thread = refl
@@ -55,12 +55,12 @@ type_of_number SysMutex = refl
 type_of_number Futex = refl
 type_of_number Mbox = refl
 
-pub no_type_from_16 : (n : ℕ) → 15 < n → type_named n ≡ types.Nothing
+pub no_type_from_16 : (n : ℕ) → 15 < n → type_named n ≡ None
 unfolding type_named
 no_type_from_16 n h =
     simp (gt_eqb n 0 (omega arith), gt_eqb n 1 (omega arith), gt_eqb n 2 (omega arith), gt_eqb n 3 (omega arith), gt_eqb n 4 (omega arith), gt_eqb n 5 (omega arith), gt_eqb n 6 (omega arith), gt_eqb n 7 (omega arith), gt_eqb n 8 (omega arith), gt_eqb n 9 (omega arith), gt_eqb n 10 (omega arith), gt_eqb n 11 (omega arith), gt_eqb n 12 (omega arith), gt_eqb n 13 (omega arith), gt_eqb n 14 (omega arith), gt_eqb n 15 (omega arith))
 
-pub check_of_number : (c : InitCheck) → check_named (check_number c) ≡ checks.Is c
+pub check_of_number : (c : InitCheck) → check_named (check_number c) ≡ Some c
 check_of_number MustBeInit = refl
 check_of_number MustNotBeInit = refl
 check_of_number DontCare = refl
@@ -104,8 +104,8 @@ pub grant_does : (o : KernelObject) (t : ℕ) → t < 64 → granted o t ≡ don
 unfolding granted
 grant_does o t h = does t o _ h
 
-pub grant_ok : (o : KernelObject) (t : ℕ) → t < 64 → (granted o t).code ≡ 0
-grant_ok o t h = ap (λ (c : Changed). c.code) (grant_does o t h)
+pub grant_ok : (o : KernelObject) (t : ℕ) → t < 64 → code_in (granted o t).answer ≡ 0
+grant_ok o t h = ap (λ (c : Changed). code_in c.answer) (grant_does o t h)
 
 pub grant_sets : (o : KernelObject) (t : ℕ) → t < 64 → is_set (granted o t).object.word t ≡ true
 grant_sets o t h = ap (λ (c : Changed). is_set c.object.word t) (grant_does o t h) ∙ is_set_same o.word t
@@ -132,8 +132,8 @@ pub revoke_does : (o : KernelObject) (t : ℕ) → t < 64 → revoked o t ≡ do
 unfolding revoked
 revoke_does o t h = does t o _ h
 
-pub revoke_ok : (o : KernelObject) (t : ℕ) → t < 64 → (revoked o t).code ≡ 0
-revoke_ok o t h = ap (λ (c : Changed). c.code) (revoke_does o t h)
+pub revoke_ok : (o : KernelObject) (t : ℕ) → t < 64 → code_in (revoked o t).answer ≡ 0
+revoke_ok o t h = ap (λ (c : Changed). code_in c.answer) (revoke_does o t h)
 
 pub revoke_clears : (o : KernelObject) (t : ℕ) → t < 64 → is_set (revoked o t).object.word t ≡ false
 revoke_clears o t h = ap (λ (c : Changed). is_set c.object.word t) (revoke_does o t h) ∙ is_clear_same o.word t
@@ -186,7 +186,7 @@ type_differs e a z ne = simp (ne_eqb e 0 z, ne_eqb e a (λ p. ne (sym p)))
 number_injective : (e a : ObjType) → type_number e ≡ type_number a → e ≡ a
 number_injective e a p = inside (sym (type_of_number e) ∙ ap type_named p ∙ type_of_number a)
   where
-    inside : types.Is e ≡ types.Is a → e ≡ a
+    inside : Some e ≡ Some a → e ≡ a
     inside q = cc
 
 pub type_mismatch : (e a : ObjType) → e ≢ Any → a ≢ e → type_fits (type_number e) (type_number a) ≡ false
@@ -205,12 +205,12 @@ type_fits_says e a p = go (ℕ_discrete e 0)
     go (yes z) = inl z
     go (no ne) = inr (eqb-true e a (sym (ap (λ (b : Bool). b || eqb e a) (ne_eqb e 0 ne)) ∙ p))
 
-pub validate_ebadf : (o : KernelObject) (e t : ℕ) (s : Bool) (c : InitCheck) → type_fits e o.obj_type ≡ false → validated o e t s c ≡ Refused 3
+pub validate_ebadf : (o : KernelObject) (e t : ℕ) (s : Bool) (c : InitCheck) → type_fits e o.obj_type ≡ false → validated o e t s c ≡ Err Ebadf
 unfolding validated judged
 validate_ebadf o e t s c p = rw p
 
 -- OK says that all three hold
-ok_says : (f a i : Bool) (c : InitCheck) → judged f a i c ≡ Ok → (f ≡ true) × (a ≡ true) × (c ≡ MustBeInit → i ≡ true) × (c ≡ MustNotBeInit → i ≡ false)
+ok_says : (f a i : Bool) (c : InitCheck) → judged f a i c ≡ passed → (f ≡ true) × (a ≡ true) × (c ≡ MustBeInit → i ≡ true) × (c ≡ MustNotBeInit → i ≡ false)
 unfolding judged
 ok_says true true true MustBeInit e = (refl, refl, λ q. refl, λ q. cc)
 ok_says true true false MustBeInit e = (refl, refl, λ q. cc, λ q. refl)
@@ -221,19 +221,19 @@ ok_says true true false DontCare e = (refl, refl, λ q. cc, λ q. refl)
 ok_says true false i c e = (refl, cc, λ q. cc, λ q. cc)
 ok_says false a i c e = (cc, cc, λ q. cc, λ q. cc)
 
-pub validate_ok_type : (o : KernelObject) (e t : ℕ) (s : Bool) (c : InitCheck) → validated o e t s c ≡ Ok → type_fits e o.obj_type ≡ true
+pub validate_ok_type : (o : KernelObject) (e t : ℕ) (s : Bool) (c : InitCheck) → validated o e t s c ≡ passed → type_fits e o.obj_type ≡ true
 unfolding validated
 validate_ok_type o e t s c p = (ok_says _ _ _ c p).0
 
-pub validate_ok_access : (o : KernelObject) (e t : ℕ) (s : Bool) (c : InitCheck) → validated o e t s c ≡ Ok → access o t s ≡ true
+pub validate_ok_access : (o : KernelObject) (e t : ℕ) (s : Bool) (c : InitCheck) → validated o e t s c ≡ passed → access o t s ≡ true
 unfolding validated
 validate_ok_access o e t s c p = (ok_says _ _ _ c p).1
 
-pub validate_ok_initialised : (o : KernelObject) (e t : ℕ) (s : Bool) → validated o e t s MustBeInit ≡ Ok → initialised o ≡ true
+pub validate_ok_initialised : (o : KernelObject) (e t : ℕ) (s : Bool) → validated o e t s MustBeInit ≡ passed → initialised o ≡ true
 unfolding validated
 validate_ok_initialised o e t s p = (ok_says _ _ _ MustBeInit p).2 refl
 
-pub validate_ok_uninitialised : (o : KernelObject) (e t : ℕ) (s : Bool) → validated o e t s MustNotBeInit ≡ Ok → initialised o ≡ false
+pub validate_ok_uninitialised : (o : KernelObject) (e t : ℕ) (s : Bool) → validated o e t s MustNotBeInit ≡ passed → initialised o ≡ false
 unfolding validated
 validate_ok_uninitialised o e t s p = (ok_says _ _ _ MustNotBeInit p).3 refl
 
@@ -276,8 +276,8 @@ pub recycle_does : (o : KernelObject) (t : ℕ) → t < 64 → recycled o t ≡ 
 unfolding recycled
 recycle_does o t h = does t o _ h
 
-pub recycle_ok : (o : KernelObject) (t : ℕ) → t < 64 → (recycled o t).code ≡ 0
-recycle_ok o t h = ap (λ (c : Changed). c.code) (recycle_does o t h)
+pub recycle_ok : (o : KernelObject) (t : ℕ) → t < 64 → code_in (recycled o t).answer ≡ 0
+recycle_ok o t h = ap (λ (c : Changed). code_in c.answer) (recycle_does o t h)
 
 -- the caller's bit and no other
 one_bit : (t k : ℕ) → is_set (set_bit 0 t) k ≡ eqb k t
@@ -304,11 +304,11 @@ recycle_keeps_flags o t k ne = either_way (λ p. is_set p.flags k) t o _ (init_k
 
 -- ---- queries
 
-pub bit_query : (o : KernelObject) (t : ℕ) → t < 64 → bit_answer o t ≡ record { code = 0; value = cond (holds o t) 1 0 }
+pub bit_query : (o : KernelObject) (t : ℕ) → t < 64 → bit_answer o t ≡ Ok (holds o t)
 unfolding bit_answer holds
-bit_query o t h = simp (lt-ltb t THREADS h) (ap (λ (n : ℕ). record { code = 0; value = n }) (bit_is o.word t))
+bit_query o t h = simp (lt-ltb t THREADS h)
 
-pub bit_query_refuses : (o : KernelObject) (t : ℕ) → 64 ≤ t → bit_answer o t ≡ record { code = 1; value = 0 }
+pub bit_query_refuses : (o : KernelObject) (t : ℕ) → 64 ≤ t → bit_answer o t ≡ Err Einval
 unfolding bit_answer
 bit_query_refuses o t h = simp (le-ltb t THREADS h)
 
@@ -398,10 +398,10 @@ pub new_no_access : (n t : ℕ) → access (new_object n) t false ≡ false
 unfolding access holds
 new_no_access n t = simp (is_zero, and-false)
 
-pub type_mismatch_fails : (o : KernelObject) (e a : ObjType) (t : ℕ) (s : Bool) (c : InitCheck) → o.obj_type ≡ type_number a → e ≢ Any → a ≢ e → validated o (type_number e) t s c ≡ Refused 3
+pub type_mismatch_fails : (o : KernelObject) (e a : ObjType) (t : ℕ) (s : Bool) (c : InitCheck) → o.obj_type ≡ type_number a → e ≢ Any → a ≢ e → validated o (type_number e) t s c ≡ Err Ebadf
 type_mismatch_fails o e a t s c is z ne = validate_ebadf o (type_number e) t s c (ap (type_fits (type_number e)) is ∙ type_mismatch e a z ne)
 
-pub uninit_fails_must_be_init : (o : KernelObject) (t : ℕ) → initialised o ≡ false → validated o (type_number Any) t true MustBeInit ≡ Refused 1
+pub uninit_fails_must_be_init : (o : KernelObject) (t : ℕ) → initialised o ≡ false → validated o (type_number Any) t true MustBeInit ≡ Err Einval
 unfolding validated judged type_fits access
 uninit_fails_must_be_init o t e = rw e
 
@@ -422,11 +422,11 @@ revoke_then_check o t e = access_bit (revoked o t).object t (ap (λ (f : ℕ). i
 
 -- ---- the decide functions
 
-pub decide_ebadf : (a i : Bool) (c : InitCheck) → judged false a i c ≡ Refused 3
+pub decide_ebadf : (a i : Bool) (c : InitCheck) → judged false a i c ≡ Err Ebadf
 unfolding judged
 decide_ebadf a i c = refl
 
-pub decide_eperm : (i : Bool) (c : InitCheck) → judged true false i c ≡ Refused 2
+pub decide_eperm : (i : Bool) (c : InitCheck) → judged true false i c ≡ Err Eperm
 unfolding judged
 decide_eperm i c = refl
 

@@ -3,8 +3,7 @@ use Rattle.std.specs.Prelude.{ℕ, ◌<◌, ◌≤◌, ◌≡◌}
 use Rattle.std.proofs.Common.{ap, ◌∙◌, arith, lt-ltb, le-ltb}
 use Rattle.std.proofs.Math.Decide.{dec_lt}
 use Rattle.userspace.specs.declared.KernelObject.{KernelObject}
-use Rattle.userspace.specs.declared.Changed.{Changed}
-use Rattle.userspace.specs.Userspace.{THREADS, changed_at, done, refused}
+use Rattle.userspace.specs.Userspace.{Changed, THREADS, changed_at, done, refused}
 
 pub refuses : (t : ℕ) (o p : KernelObject) → THREADS ≤ t → changed_at t o p ≡ refused o
 unfolding changed_at

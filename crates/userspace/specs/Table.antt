@@ -1,18 +1,15 @@
 -- Upstream's record and its operations on values, taken from upstream's bodies: five fields and a table of 64 yes or no.
 -- And the table of a word, with which a record here is the picture of upstream's (docs/SPEC.md, 4.25 to 4.35).
-use Rattle.std.specs.Prelude.{ℕ, zero, suc, ◌+◌, ◌*◌, Bool, true, false, cond, not, List, [], ◌∷◌, leb, eqb, get_or, set, replicate}
+use Rattle.std.specs.Prelude.{ℕ, zero, suc, ◌+◌, ◌*◌, Bool, true, false, cond, not, List, [], ◌∷◌, leb, eqb, get_or, set, replicate, Err}
 use Rattle.answer.specs.declared.Answer.{Answer}
 use Rattle.answer.specs.declared.Code.TheVariants as codes
-use Rattle.answer.specs.Answer.{number_of}
+use Rattle.answer.specs.Answer.{number_of, code_in}
 use Rattle.userspace_names.specs.declared.InitCheck.{InitCheck}
 use Rattle.userspace_names.specs.declared.InitCheck.TheVariants.{MustBeInit, MustNotBeInit, DontCare}
 use Rattle.userspace.specs.declared.KernelObject.{KernelObject}
-use Rattle.userspace.specs.declared.Changed.{Changed}
-use Rattle.userspace_decide.specs.declared.Validated.{Validated}
-use Rattle.userspace_decide.specs.declared.Validated.TheVariants.{Ok, Refused}
 use Rattle.bits.specs.Bit.{is_set}
-use Rattle.userspace_decide.specs.Decide.{answer_of}
-use Rattle.userspace.specs.Userspace.{THREADS, granted, revoked, cleared_all, recycled, initiated, uninitiated, published, new_object, access, validated, initialised, public, allocated, driver, bit_answer}
+use Rattle.userspace_decide.specs.Decide.{Validated, passed, answer_of}
+use Rattle.userspace.specs.Userspace.{Changed, THREADS, granted, revoked, cleared_all, recycled, initiated, uninitiated, published, new_object, access, validated, initialised, public, allocated, driver, bit_answer, bit_told}
 
 -- ---- upstream's record
 
@@ -102,15 +99,15 @@ type_t expected actual = cond (eqb expected 0) true (eqb expected actual)
 
 -- the `match` on init_check
 abbrev pub init_check_t : InitCheck → Bool → Validated
-init_check_t MustBeInit i = cond (not i) (Refused (number_of codes.Einval)) Ok
-init_check_t MustNotBeInit i = cond i (Refused (number_of codes.Eaddrinuse)) Ok
-init_check_t DontCare i = Ok
+init_check_t MustBeInit i = cond (not i) (Err codes.Einval) passed
+init_check_t MustNotBeInit i = cond i (Err codes.Eaddrinuse) passed
+init_check_t DontCare i = passed
 
 -- `validate`: EBADF, EPERM, then the initialisation
 abbrev pub validate_t : Table → ℕ → ℕ → Bool → InitCheck → Validated
 validate_t u expected tid supervisor check =
-    cond (not (type_t expected u.kind)) (Refused (number_of codes.Ebadf)) (
-    cond (not (check_t u tid supervisor)) (Refused (number_of codes.Eperm)) (init_check_t check u.flag_initialized))
+    cond (not (type_t expected u.kind)) (Err codes.Ebadf) (
+    cond (not (check_t u tid supervisor)) (Err codes.Eperm) (init_check_t check u.flag_initialized))
 
 -- `has_perm`, which requires tid < 64 upstream: here that is a refusal
 abbrev pub has_perm_t : Table → ℕ → Answer
@@ -147,8 +144,18 @@ table_of o =
       thread_perms = perms_of o.word;
     }
 
--- the same of what an operation answers
-abbrev pub did_of : Changed → Did
+-- what a step answers here, and the record after
+pub record Stepped : Type 0 where
+  pub code : ℕ
+  pub value : ℕ
+  pub object : KernelObject
+
+-- a change is such a step, and its value is 0
+abbrev pub step_of : Changed → Stepped
+step_of c = record { code = code_in c.answer; value = 0; object = c.object }
+
+-- the same with the table for the record
+abbrev pub did_of : Stepped → Did
 did_of c = record { code = c.code; value = c.value; table = table_of c.object }
 
 -- ---- any sequence of operations and queries
@@ -164,11 +171,11 @@ pub data Op : Type 0 where
   has_perm : ℕ → Op
 
 -- an operation that answers nothing
-abbrev pub becomes : KernelObject → Changed
+abbrev pub becomes : KernelObject → Stepped
 becomes o = record { code = number_of codes.Ok; value = 0; object = o }
 
 -- a query, which changes nothing
-abbrev pub tells : Answer → KernelObject → Changed
+abbrev pub tells : Answer → KernelObject → Stepped
 tells a o = record { code = a.code; value = a.value; object = o }
 
 -- a yes or no as an answer
@@ -187,12 +194,12 @@ abbrev pub tells_t : Answer → Table → Did
 tells_t a u = record { code = a.code; value = a.value; table = u }
 
 -- one step here: what is answered, and the record after
-unfoldable pub step : Op → KernelObject → Changed
+unfoldable pub step : Op → KernelObject → Stepped
 step (new t) o = becomes (new_object t)
-step (grant t) o = granted o t
-step (revoke t) o = revoked o t
-step (clear_thread t) o = revoked o t
-step (recycle t) o = recycled o t
+step (grant t) o = step_of (granted o t)
+step (revoke t) o = step_of (revoked o t)
+step (clear_thread t) o = step_of (revoked o t)
+step (recycle t) o = step_of (recycled o t)
 step clear_all o = becomes (cleared_all o)
 step init o = becomes (initiated o)
 step uninit o = becomes (uninitiated o)
@@ -204,7 +211,7 @@ step is_public o = tells (says (public o)) o
 step is_alloc o = tells (says (allocated o)) o
 step is_driver o = tells (says (driver o)) o
 step obj_type_get o = tells (gives o.obj_type) o
-step (has_perm t) o = tells (bit_answer o t) o
+step (has_perm t) o = tells (bit_told (bit_answer o t)) o
 
 -- the same step upstream
 unfoldable pub step_t : Op → Table → Did

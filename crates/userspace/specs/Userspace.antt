@@ -1,16 +1,15 @@
 -- What the permission leaf answers and changes, for any record taken literally: docs/SPEC.md, 4.1 to 4.20.
-use Rattle.std.specs.Prelude.{ℕ, Bool, cond, ◌&&◌, ◌||◌, ltb, eqb}
+use Rattle.std.specs.Prelude.{ℕ, ◌^◌, Bool, cond, ◌&&◌, ◌||◌, ltb, eqb, Result, Ok, Err, ⊤}
 use Rattle.answer.specs.declared.Answer.{Answer}
+use Rattle.answer.specs.declared.Code.{Code}
 use Rattle.answer.specs.declared.Code.TheVariants as codes
-use Rattle.answer.specs.Answer.{number_of}
-use Rattle.bits.specs.Bit.{bit_of, is_set, set_bit, clear_bit}
+use Rattle.answer.specs.Answer.{code_in}
+use Rattle.bits.specs.Bit.{is_set, set_bit, clear_bit}
 use Rattle.userspace_names.specs.declared.ObjType.TheVariants.{Any}
 use Rattle.userspace_names.specs.declared.InitCheck.{InitCheck}
 use Rattle.userspace_names.specs.Names.{type_number}
-use Rattle.userspace_decide.specs.declared.Validated.{Validated}
-use Rattle.userspace_decide.specs.Decide.{INITIALISED, PUBLIC, ALLOC, DRIVER, judged}
+use Rattle.userspace_decide.specs.Decide.{Validated, INITIALISED, PUBLIC, ALLOC, DRIVER, judged}
 use Rattle.userspace.specs.declared.KernelObject.{KernelObject}
-use Rattle.userspace.specs.declared.Changed.{Changed}
 
 -- how many threads there are (SPEC 2.1)
 abbrev pub THREADS : ℕ
@@ -52,13 +51,18 @@ with_flags o f = record { obj_type = o.obj_type; flags = f; word = o.word }
 
 -- ---- what is answered
 
--- done: OK, value 0, and the record after
-abbrev pub done : KernelObject → Changed
-done o = record { code = number_of codes.Ok; value = 0; object = o }
+-- what grant, revoke, per-thread clear and recycle make of a record: the answer, and the record after
+pub record Changed : Type 0 where
+  pub answer : Result ⊤ Code
+  pub object : KernelObject
 
--- a refusal of a thread: EINVAL, value 0, and the record as it was
+-- done: OK, and the record after
+abbrev pub done : KernelObject → Changed
+done o = record { answer = Ok tt; object = o }
+
+-- a refusal of a thread: EINVAL, and the record as it was
 abbrev pub refused : KernelObject → Changed
-refused o = record { code = number_of codes.Einval; value = 0; object = o }
+refused o = record { answer = Err codes.Einval; object = o }
 
 -- a thread from 64 on is EINVAL, and the record comes back as it was (SPEC 4.6)
 unfoldable pub changed_at : ℕ → KernelObject → KernelObject → Changed
@@ -100,12 +104,17 @@ recycled o t = changed_at t o (with_word (initiated o) (set_bit 0 t))
 
 -- ---- queries
 
--- the bit as a number; from 64 on EINVAL (SPEC 4.13)
-unfoldable pub bit_answer : KernelObject → ℕ → Answer
-bit_answer o t =
-    cond (ltb t THREADS)
-    (record { code = number_of codes.Ok; value = bit_of o.word t })
-    (record { code = number_of codes.Einval; value = 0 })
+-- whether the bit is set; from 64 on EINVAL (SPEC 4.13)
+unfoldable pub bit_answer : KernelObject → ℕ → Result Bool Code
+bit_answer o t = cond (ltb t THREADS) (Ok (is_set o.word t)) (Err codes.Einval)
+
+-- the same as a number of the table and a value
+abbrev pub bit_in : Result Bool Code → ℕ
+bit_in (Ok b) = cond b 1 0
+bit_in (Err c) = 0
+
+abbrev pub bit_told : Result Bool Code → Answer
+bit_told r = record { code = code_in r; value = bit_in r }
 
 -- the expected type fits (SPEC 4.15)
 unfoldable pub type_fits : ℕ → ℕ → Bool
@@ -116,16 +125,8 @@ unfoldable pub validated : KernelObject → ℕ → ℕ → Bool → InitCheck �
 validated o expected t supervisor check =
     judged (type_fits expected o.obj_type) (access o t supervisor) (initialised o) check
 
--- ---- steps of the code that refuse no thread by themselves
+-- ---- a step of the code
 
--- bit t as a number, 0 from 64 on
-unfoldable pub bit_at : ℕ → ℕ → ℕ
-bit_at w t = cond (ltb t THREADS) (bit_of w t) 0
-
--- the word with bit t on, from 64 on as it is
-unfoldable pub with_bit : ℕ → ℕ → ℕ
-with_bit w t = cond (ltb t THREADS) (set_bit w t) w
-
--- the word with bit t off, from 64 on as it is
-unfoldable pub without_bit : ℕ → ℕ → ℕ
-without_bit w t = cond (ltb t THREADS) (clear_bit w t) w
+-- the word with bit t alone, from 64 on EINVAL
+unfoldable pub bit_for : ℕ → Result ℕ Code
+bit_for t = cond (ltb t THREADS) (Ok (2 ^ t)) (Err codes.Einval)

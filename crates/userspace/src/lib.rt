@@ -5,79 +5,35 @@
 #![tactic(auto)]
 
 ghost use Rattle.std.specs.Prelude.{◌≡◌};
-ghost use Rattle.userspace.specs.Userspace.{bit_at, with_bit, without_bit, with_word, with_flags, public, initialised, allocated, driver, changed_at, new_object, granted, revoked, cleared_all, access, type_fits, validated, initiated, uninitiated, recycled, published, bit_answer};
+ghost use Rattle.userspace.specs.Userspace.{bit_for, public, initialised, allocated, driver, new_object, granted, revoked, cleared_all, access, type_fits, validated, initiated, uninitiated, recycled, published, bit_answer};
 
-use answer::Answer;
-use userspace_decide::Validated;
+use answer::Code;
 use userspace_names::InitCheck;
 
 // Threads 0 to 63 have a bit.
 pub const MAX_THREADS: u32 = 64;
 
 // A record as it is stored: type and flags are compared and never judged.
-#[derive(Clone, Copy)]
+#[derive(Clone, Copy, Debug, Default, PartialEq, Eq, Hash)]
 pub struct KernelObject {
     pub obj_type: u8,
     pub flags: u8,
     pub word: u64,
 }
 
-// What grant, revoke, per-thread clear and recycle answer: the table's number, a value, and the record.
-#[derive(Clone, Copy)]
-pub struct Changed {
-    pub code: u32,
-    pub value: u32,
-    pub object: KernelObject,
-}
-
-// Bit t of a word, as a number; no thread from 64 on has one.
-fn bit(word: u64, t: u32) -> u32
-    ensures { result ≡ bit_at word t }
+// The one place that refuses a thread: a word with its bit alone, or EINVAL, so that no shift is ever by 64.
+#[tactic(auto, using(bits::specs::Bit::shifted), unfolding(crate::specs::Userspace::bit_for))]
+fn mask_of(tid: u32) -> Result<u64, Code>
+    ensures { result ≡ bit_for tid }
 {
-    if MAX_THREADS <= t {
-        return 0;
-    }
-    ((word >> t) % 2) as u32
-}
-
-// The word with bit t on; from 64 on the word itself, so that no shift is ever by 64.
-fn with_bit(word: u64, t: u32) -> u64
-    ensures { result ≡ with_bit word t }
-{
-    if MAX_THREADS <= t {
-        return word;
-    }
-    word | (1u64 << t)
-}
-
-// The word with bit t off; from 64 on the word itself.
-fn without_bit(word: u64, t: u32) -> u64
-    ensures { result ≡ without_bit word t }
-{
-    if MAX_THREADS <= t {
-        return word;
-    }
-    word & !(1u64 << t)
-}
-
-// The one place that refuses a thread: OK and the record after, or EINVAL and the record before.
-fn changed_at(t: u32, before: KernelObject, after: KernelObject) -> Changed
-    ensures { result ≡ changed_at t before after }
-{
-    if t < MAX_THREADS {
-        return Changed {
-            code: answer::OK,
-            value: 0,
-            object: after,
-        };
-    }
-    Changed {
-        code: answer::EINVAL,
-        value: 0,
-        object: before,
+    if tid < MAX_THREADS {
+        Ok(1u64 << tid)
+    } else {
+        Err(Code::Einval)
     }
 }
 
+#[tactic(auto, unfolding(crate::specs::Userspace::type_fits))]
 fn type_fits(expected: u8, actual: u8) -> bool
     ensures { result ≡ type_fits expected actual }
 {
@@ -93,26 +49,6 @@ impl KernelObject {
 
     pub const DRIVER: u8 = 8;
 
-    fn with_word(self, word: u64) -> Self
-        ensures { result ≡ with_word self word }
-    {
-        Self {
-            obj_type: self.obj_type,
-            flags: self.flags,
-            word,
-        }
-    }
-
-    fn with_flags(self, flags: u8) -> Self
-        ensures { result ≡ with_flags self flags }
-    {
-        Self {
-            obj_type: self.obj_type,
-            flags,
-            word: self.word,
-        }
-    }
-
     pub fn new(kind: u8) -> Self
         ensures { result ≡ new_object kind }
     {
@@ -123,42 +59,50 @@ impl KernelObject {
         }
     }
 
-    pub fn grant_access(self, tid: u32) -> Changed
-        ensures { result ≡ granted self tid }
+    pub fn grant_access(&mut self, tid: u32) -> Result<(), Code>
+        ensures answer { result ≡ (granted self.old tid).answer }
+        ensures object { self.new ≡ (granted self.old tid).object }
     {
-        let word = with_bit(self.word, tid);
-        changed_at(tid, self, self.with_word(word))
+        self.word |= mask_of(tid)?;
+        Ok(())
     }
 
-    pub fn revoke_access(self, tid: u32) -> Changed
-        ensures { result ≡ revoked self tid }
+    pub fn revoke_access(&mut self, tid: u32) -> Result<(), Code>
+        ensures answer { result ≡ (revoked self.old tid).answer }
+        ensures object { self.new ≡ (revoked self.old tid).object }
     {
-        let word = without_bit(self.word, tid);
-        changed_at(tid, self, self.with_word(word))
+        self.word &= !mask_of(tid)?;
+        Ok(())
     }
 
-    pub fn clear_thread_perm(self, tid: u32) -> Changed
-        ensures { result ≡ revoked self tid }
+    pub fn clear_thread_perm(&mut self, tid: u32) -> Result<(), Code>
+        ensures answer { result ≡ (revoked self.old tid).answer }
+        ensures object { self.new ≡ (revoked self.old tid).object }
     {
         self.revoke_access(tid)
     }
 
-    pub fn clear_all_perms(self) -> Self
-        ensures { result ≡ cleared_all self }
+    pub fn clear_all_perms(&mut self)
+        ensures { self.new ≡ cleared_all self.old }
     {
-        self.with_word(0)
+        self.word = 0;
     }
 
+    #[tactic(auto, unfolding(crate::specs::Userspace::access, crate::specs::Userspace::holds, crate::specs::Userspace::bit_answer))]
     pub fn check_access(self, tid: u32, supervisor: bool) -> bool
         ensures { result ≡ access self tid supervisor }
     {
-        if supervisor {
-            return true;
-        }
-        userspace_decide::access_decide(self.is_public(), bit(self.word, tid) == 1)
+        supervisor
+            || userspace_decide::access_decide(self.is_public(), self.has_perm(tid) == Ok(true))
     }
 
-    pub fn validate(self, expected: u8, tid: u32, supervisor: bool, check: InitCheck) -> Validated
+    pub fn validate(
+        self,
+        expected: u8,
+        tid: u32,
+        supervisor: bool,
+        check: InitCheck,
+    ) -> Result<(), Code>
         ensures { result ≡ validated self expected tid supervisor check }
     {
         let fits = type_fits(expected, self.obj_type);
@@ -167,35 +111,32 @@ impl KernelObject {
         userspace_decide::validate_decide(fits, allowed, self.is_initialized(), mode)
     }
 
-    pub fn init_object(self) -> Self
-        ensures { result ≡ initiated self }
+    pub fn init_object(&mut self)
+        ensures { self.new ≡ initiated self.old }
     {
-        self.with_flags(userspace_decide::init_flags_decide(self.flags))
+        self.flags = userspace_decide::init_flags_decide(self.flags);
     }
 
-    pub fn uninit_object(self) -> Self
-        ensures { result ≡ uninitiated self }
+    pub fn uninit_object(&mut self)
+        ensures { self.new ≡ uninitiated self.old }
     {
-        self.with_flags(userspace_decide::uninit_flags_decide(self.flags))
+        self.flags = userspace_decide::uninit_flags_decide(self.flags);
     }
 
-    pub fn recycle(self, caller: u32) -> Changed
-        ensures { result ≡ recycled self caller }
+    pub fn recycle(&mut self, caller: u32) -> Result<(), Code>
+        ensures answer { result ≡ (recycled self.old caller).answer }
+        ensures object { self.new ≡ (recycled self.old caller).object }
     {
-        let flags = userspace_decide::recycle_flags_decide(self.flags);
-        let word = with_bit(0, caller);
-        let after = Self {
-            obj_type: self.obj_type,
-            flags,
-            word,
-        };
-        changed_at(caller, self, after)
+        let only = mask_of(caller)?;
+        self.flags = userspace_decide::recycle_flags_decide(self.flags);
+        self.word = only;
+        Ok(())
     }
 
-    pub fn make_public(self) -> Self
-        ensures { result ≡ published self }
+    pub fn make_public(&mut self)
+        ensures { self.new ≡ published self.old }
     {
-        self.with_flags(userspace_decide::make_public_flags_decide(self.flags))
+        self.flags = userspace_decide::make_public_flags_decide(self.flags);
     }
 
     pub fn is_initialized(self) -> bool
@@ -223,25 +164,16 @@ impl KernelObject {
         self.flags & Self::DRIVER != 0
     }
 
-    pub fn has_perm(self, tid: u32) -> Answer
+    // Whether the thread holds its bit.
+    pub fn has_perm(self, tid: u32) -> Result<bool, Code>
         ensures { result ≡ bit_answer self tid }
     {
-        if MAX_THREADS <= tid {
-            return Answer {
-                code: answer::EINVAL,
-                value: 0,
-            };
-        }
-        Answer {
-            code: answer::OK,
-            value: bit(self.word, tid),
-        }
+        Ok(self.word & mask_of(tid)? != 0)
     }
 
     pub fn obj_type_get(self) -> u8
         ensures { result ≡ self.obj_type }
     {
-        let kind = self.obj_type;
-        kind
+        self.obj_type
     }
 }

@@ -1,6 +1,6 @@
-use Rattle.userspace.proofs.Steps.{same_judged, mode_number_lem}
-use mathlib.Core.Path.{◌∙◌}
+use Rattle.std.proofs.Common.{◌∙◌}
 use Rattle.userspace.specs.Userspace.{validated}
+use Rattle.userspace.proofs.Steps.{same_judged, mode_number_lem}
 use Rattle.userspace.proofs.KernelObject.validate.Goals as goal
 
 pub returns : goal.returns
