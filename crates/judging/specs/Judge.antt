@@ -3,11 +3,10 @@ use Rattle.std.specs.Prelude.{ℕ, Bool, true, false, cond, not, ◌&&◌, ◌||
 use Rattle.answer.specs.declared.Answer.{Answer}
 use Rattle.answer.specs.declared.Code.{Code}
 use Rattle.answer.specs.declared.Code.TheVariants.{Einval, Eperm, Ebadf, Eaddrinuse, Short, Value}
-use Rattle.answer.specs.Answer.{refused, done}
+use Rattle.answer.specs.Answer.{refused, done, told}
 use Rattle.mem_partition.specs.declared.MemPartition.{MemPartition}
-use Rattle.mem_domain.specs.declared.Changed.{Changed}
 use Rattle.mem_domain.specs.Scan.{any_to}
-use Rattle.mem_domain.specs.Domain.{with_count, added, removed}
+use Rattle.mem_domain.specs.Domain.{Changed, with_count, added, removed}
 use Rattle.domain_rules.specs.Sound.{attr_ok}
 use Rattle.userspace_names.specs.declared.InitCheck.{InitCheck}
 use Rattle.userspace.specs.declared.KernelObject.{KernelObject}
@@ -125,7 +124,7 @@ abbrev pub partition_of : Call → MemPartition
 partition_of c = record { start = c.b; size = c.c; attr = c.d }
 
 abbrev pub slot_answer : Changed → Answer
-slot_answer r = record { code = r.code; value = r.value }
+slot_answer r = told r.answer
 
 unfoldable pub sup_rule : Sup → State → Call → Answer
 sup_rule create s c = done

@@ -1,9 +1,10 @@
 -- What the exported functions promise: the leaf's own definitions, with the record's fields as plain numbers (docs/SPEC.md, 12.8 to 12.10).
 use Rattle.std.specs.Prelude.{ℕ, ◌≡◌, Bool, ℤ}
 use Rattle.userspace.specs.declared.KernelObject.{KernelObject}
+use Rattle.answer.specs.Answer.{code_in}
 use Rattle.userspace_names.specs.Names.{mode_of}
 use Rattle.userspace_decide.specs.Decide.{answer_of}
-use Rattle.userspace.specs.Userspace.{granted, revoked, recycled, bit_answer, access, validated}
+use Rattle.userspace.specs.Userspace.{granted, revoked, recycled, bit_answer, bit_in, access, validated}
 
 -- a record of these fields; the type plays no part but in validate
 abbrev pub object_of : ℕ → ℕ → ℕ → KernelObject
@@ -11,24 +12,24 @@ object_of kind flags word = record { obj_type = kind; flags = flags; word = word
 
 -- grant: the code, and the word after
 pub record Grants (before tid r after : ℕ) : Type 0 where
-  pub code : r ≡ (granted (object_of 0 0 before) tid).code
+  pub code : r ≡ code_in (granted (object_of 0 0 before) tid).answer
   pub word : after ≡ (granted (object_of 0 0 before) tid).object.word
 
 -- revoke: the code, and the word after
 pub record Revokes (before tid r after : ℕ) : Type 0 where
-  pub code : r ≡ (revoked (object_of 0 0 before) tid).code
+  pub code : r ≡ code_in (revoked (object_of 0 0 before) tid).answer
   pub word : after ≡ (revoked (object_of 0 0 before) tid).object.word
 
 -- recycle: the code, and the flags and the word after
 pub record Recycles (flags word tid r flags_after wordAfter : ℕ) : Type 0 where
-  pub code : r ≡ (recycled (object_of 0 flags word) tid).code
+  pub code : r ≡ code_in (recycled (object_of 0 flags word) tid).answer
   pub flags_after_lem : flags_after ≡ (recycled (object_of 0 flags word) tid).object.flags
   pub word_after : wordAfter ≡ (recycled (object_of 0 flags word) tid).object.word
 
 -- bit query: the code, and the value
 pub record Queries (word tid r value : ℕ) : Type 0 where
-  pub code : r ≡ (bit_answer (object_of 0 0 word) tid).code
-  pub told : value ≡ (bit_answer (object_of 0 0 word) tid).value
+  pub code : r ≡ code_in (bit_answer (object_of 0 0 word) tid)
+  pub told : value ≡ bit_in (bit_answer (object_of 0 0 word) tid)
 
 -- access
 abbrev pub may_use : ℕ → ℕ → ℕ → Bool → Bool

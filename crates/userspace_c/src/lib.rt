@@ -7,8 +7,9 @@ ghost use Rattle.std.specs.Prelude.{◌≡◌};
 ghost use Rattle.userspace_names.specs.Names.{mode_of};
 ghost use Rattle.userspace_c.specs.Exported.{Grants, Revokes, Recycles, Queries, may_use, valid_code};
 
+use answer::Answer;
 use userspace::KernelObject;
-use userspace_names::{InitCheck, NamedCheck};
+use userspace_names::InitCheck;
 
 fn object(kind: u8, flags: u8, word: u64) -> KernelObject
     ensures { result ≡ record { obj_type = kind; flags = flags; word = word } }
@@ -23,35 +24,36 @@ fn object(kind: u8, flags: u8, word: u64) -> KernelObject
 pub fn userspace_grant(word: &mut u64, tid: u32) -> u32
     ensures { Grants word.old tid result word.new }
 {
-    let granted = object(0, 0, *word).grant_access(tid);
-    let after = granted.object;
-    *word = after.word;
-    granted.code
+    let mut object = object(0, 0, *word);
+    let granted = object.grant_access(tid);
+    *word = object.word;
+    Answer::from(granted).code
 }
 
 pub fn userspace_revoke(word: &mut u64, tid: u32) -> u32
     ensures { Revokes word.old tid result word.new }
 {
-    let revoked = object(0, 0, *word).revoke_access(tid);
-    let after = revoked.object;
-    *word = after.word;
-    revoked.code
+    let mut object = object(0, 0, *word);
+    let revoked = object.revoke_access(tid);
+    *word = object.word;
+    Answer::from(revoked).code
 }
 
 pub fn userspace_recycle(flags: &mut u8, word: &mut u64, tid: u32) -> u32
     ensures { Recycles flags.old word.old tid result flags.new word.new }
 {
-    let recycled = object(0, *flags, *word).recycle(tid);
-    let after = recycled.object;
-    *flags = after.flags;
-    *word = after.word;
-    recycled.code
+    let mut object = object(0, *flags, *word);
+    let recycled = object.recycle(tid);
+    *flags = object.flags;
+    *word = object.word;
+    Answer::from(recycled).code
 }
 
 pub fn userspace_has_perm(word: u64, tid: u32, value: &mut u32) -> u32
     ensures { Queries word tid result value.new }
 {
-    let told = object(0, 0, word).has_perm(tid);
+    let held = object(0, 0, word).has_perm(tid);
+    let told = Answer::from(held.map(|yes| u32::from(yes)));
     *value = told.value;
     told.code
 }
@@ -81,8 +83,5 @@ pub fn userspace_validate(
 fn check(mode: i32) -> InitCheck
     ensures { result ≡ mode_of mode }
 {
-    match userspace_names::init_check_of(mode) {
-        NamedCheck::Is(c) => c,
-        NamedCheck::Nothing => InitCheck::DontCare,
-    }
+    userspace_names::init_check_of(mode).unwrap_or(InitCheck::DontCare)
 }

@@ -7,7 +7,7 @@ ghost use Rattle.bits.specs.Bit.{set_bit, clear_bit};
 ghost use Rattle.userspace_names.specs.Names.{mode_of};
 ghost use Rattle.userspace_decide.specs.Decide.{INITIALISED, PUBLIC, judged, answer_of};
 
-use answer::Code;
+use answer::{Answer, Code};
 
 // The flags that upstream's decisions set and clear; the record's constants are these.
 pub const FLAG_INITIALIZED: u8 = 1;
@@ -67,8 +67,5 @@ pub fn make_public_flags_decide(flags: u8) -> u8
 pub fn validated_number(v: Result<(), Code>) -> u32
     ensures { result ≡ (answer_of v).code }
 {
-    match v {
-        Ok(()) => answer::OK,
-        Err(c) => answer::number(c),
-    }
+    Answer::from(v).code
 }
