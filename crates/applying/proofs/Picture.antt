@@ -12,8 +12,7 @@ use lib.Dec.{eqb}
 use Rattle.answer.specs.Answer.{number_of}
 use Rattle.answer.specs.declared.Code.TheVariants.{Einval, Enospc, Enoent}
 use Rattle.mem_partition.specs.Partition.{empty}
-use Rattle.mem_domain.specs.Domain.{slots as SLOTS, with_count, addable, has_free, lowest_free, has_window, lowest_window, refused, added, removed, changed_at}
-use Rattle.mem_domain.specs.declared.Changed.{Changed as DomainChanged}
+use Rattle.mem_domain.specs.Domain.{Changed as DomainChanged, slots as SLOTS, with_count, addable, has_free, lowest_free, has_window, lowest_window, refused, added, removed, changed_at}
 use Rattle.mem_partition.specs.declared.MemPartition.{MemPartition}
 use Rattle.userspace.specs.declared.KernelObject.{KernelObject}
 use Rattle.bits.specs.Bit.{set_bit, set_lt, clear_lt}
@@ -259,8 +258,8 @@ added_sixteen p ps e = go (not (addable ps p)) (not (has_free ps))
   where
     go : (a b : Bool) →
         Sixteen
-        (cond {A = DomainChanged} a (refused (number_of Einval) (with_count ps)) (
-        cond b (refused (number_of Enospc) (with_count ps)) (changed_at ps (lowest_free ps) p))).domain.partitions
+        (cond {A = DomainChanged} a (refused Einval (with_count ps)) (
+        cond b (refused Enospc (with_count ps)) (changed_at ps (lowest_free ps) p))).domain.partitions
     go true b = e
     go false true = e
     go false false = length-set ps (lowest_free ps) p ∙ e
@@ -269,7 +268,7 @@ removed_sixteen : (start size : ℕ) (ps : List MemPartition) → Sixteen ps →
 unfolding removed with_count changed_at
 removed_sixteen start size ps e = go (eqb size 0 || not (has_window ps start size))
   where
-    go : (a : Bool) → Sixteen (cond {A = DomainChanged} a (refused (number_of Enoent) (with_count ps)) (changed_at ps (lowest_window ps start size) empty)).domain.partitions
+    go : (a : Bool) → Sixteen (cond {A = DomainChanged} a (refused Enoent (with_count ps)) (changed_at ps (lowest_window ps start size) empty)).domain.partitions
     go true = e
     go false = length-set ps (lowest_window ps start size) empty ∙ e
 

@@ -9,7 +9,7 @@ use lib.Dec.{eqb, ltb, leb, lit<}
 use borrow.Author.Tests.{ltb-true, leb-true, le-leb, eqb-true, eq-eqb, not-true}
 use Rattle.answer.specs.declared.Answer.{Answer}
 use Rattle.answer.specs.declared.Code.TheVariants.{Einval, Eperm, Ebadf}
-use Rattle.answer.specs.Answer.{number_of, done, refused}
+use Rattle.answer.specs.Answer.{number_of, done, refused, code_in}
 use Rattle.mem_partition.specs.declared.MemPartition.{MemPartition}
 use Rattle.mem_domain.specs.Scan.{lowest, any_to}
 use Rattle.mem_partition.specs.Partition.{is_free, is_active, is_valid, overlap_of, is_window, end_of}
@@ -18,7 +18,7 @@ use Rattle.mem_domain.proofs.Scan.{any_at, any_hit, any_none, any_miss}
 use Rattle.mem_domain.proofs.Domain.{add_accepts, added_ok, remove_matches, removed_ok}
 use Rattle.mem_domain.proofs.Slots.{no_clash, clash_none}
 use Rattle.userspace.specs.declared.KernelObject.{KernelObject}
-use Rattle.userspace_decide.specs.declared.Validated.TheVariants.{Refused}
+use Rattle.std.specs.Prelude.{Err}
 use Rattle.userspace_names.specs.declared.InitCheck.TheVariants.{MustBeInit, MustNotBeInit}
 use Rattle.domain_rules.specs.Sound.{attr_ok}
 use Rattle.bits.specs.Bit.{is_set}
@@ -244,7 +244,7 @@ unfolding validated judged
 validated_iff o e t v n m = go (type_fits e o.obj_type) (access o t v) (fits_iff e o.obj_type) (init_iff n (initialised o) m)
   where
     go : (x y : Bool) → ((x ≡ true) ↔ FitsType e o.obj_type) → (((answer_of (init_judged (initialised o) (mode_of n))).code ≡ 0) ↔ Demand n (initialised o))
-        → ((answer_of (cond x (cond y (init_judged (initialised o) (mode_of n)) (Refused (number_of Eperm))) (Refused (number_of Ebadf)))).code ≡ 0)
+        → ((answer_of (cond x (cond y (init_judged (initialised o) (mode_of n)) (Err Eperm)) (Err Ebadf))).code ≡ 0)
         ↔ (FitsType e o.obj_type × ((y ≡ true) × Demand n (initialised o)))
     go true true (f, g) (h, k) = (λ q. (f refl, (refl, h q)), λ p. k p.1.1)
     go true false (f, g) (h, k) = (λ q. absurd (omega arith), λ p. absurd (false≢true p.1.0))
@@ -292,19 +292,19 @@ unfolding has_window is_window
 match_iff l start size = any_iff (window_at l start size) SLOTS (λ k. and_iff _ _ (eq_iff (slot_at l k).start start) (eq_iff (slot_at l k).size size))
 
 added_iff : (l : List MemPartition) (p : MemPartition)
-    → ((added (with_count l) p).code ≡ 0) ↔ (((0 < p.size) × (end_of p ≤ 4294967295)) × (Apart l p × Room l))
+    → (code_in (added (with_count l) p).answer ≡ 0) ↔ (((0 < p.size) × (end_of p ≤ 4294967295)) × (Apart l p × Room l))
 unfolding with_count changed_at
 added_iff l p =
     let (f, g) = addable_iff l p in
     let (h, k) = room_iff l in
-    (λ e. let (a, b) = add_accepts (with_count l) p e in ((f a).0, ((f a).1, h b)), λ q. ap (λ r. r.code) (added_ok (with_count l) p (g (q.0, q.1.0)) (k q.1.1)))
+    (λ e. let (a, b) = add_accepts (with_count l) p e in ((f a).0, ((f a).1, h b)), λ q. ap (λ r. code_in r.answer) (added_ok (with_count l) p (g (q.0, q.1.0)) (k q.1.1)))
 
-removed_iff : (l : List MemPartition) (start size : ℕ) → ((removed (with_count l) start size).code ≡ 0) ↔ ((size ≢ 0) × Match l start size)
+removed_iff : (l : List MemPartition) (start size : ℕ) → (code_in (removed (with_count l) start size).answer ≡ 0) ↔ ((size ≢ 0) × Match l start size)
 unfolding with_count changed_at
 removed_iff l start size =
     let (f, g) = ne_iff size 0 in
     let (h, k) = match_iff l start size in
-    (λ e. let (a, b) = remove_matches (with_count l) start size e in (f a, h b), λ q. ap (λ r. r.code) (removed_ok (with_count l) start size (g q.0) (k q.1)))
+    (λ e. let (a, b) = remove_matches (with_count l) start size e in (f a, h b), λ q. ap (λ r. code_in r.answer) (removed_ok (with_count l) start size (g q.0) (k q.1)))
 
 -- nothing more is asked
 done_iff : (done.code ≡ 0) ↔ Unit {0}

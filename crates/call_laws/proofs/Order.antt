@@ -18,7 +18,7 @@ use Rattle.answer.specs.Given.{one_of, either, one_of_more}
 use Rattle.mem_partition.specs.declared.MemPartition.{MemPartition}
 use Rattle.mem_domain.specs.Domain.{addable, has_free, has_window, lowest_free, lowest_window, with_count, changed_at, added, removed}
 use Rattle.userspace_names.specs.declared.InitCheck.TheVariants.{MustBeInit, MustNotBeInit}
-use Rattle.userspace_decide.specs.declared.Validated.TheVariants.{Refused}
+use Rattle.std.specs.Prelude.{Err}
 use Rattle.userspace_decide.specs.Decide.{init_judged, judged, answer_of}
 use Rattle.userspace.specs.Userspace.{THREADS, type_fits, initialised, validated}
 use Rattle.tables.specs.Table.{HANDLES}
@@ -131,7 +131,7 @@ mode_order n i (inr (inr e)) = rw e (go i)
     go false = refl
 
 validate_order : (x y i : Bool) (n : ℕ) → Mode n
-    → answer_of (cond x (cond y (init_judged i (mode_of n)) (Refused (number_of Eperm))) (Refused (number_of Ebadf)))
+    → answer_of (cond x (cond y (init_judged i (mode_of n)) (Err Eperm)) (Err Ebadf))
     ≡ (not x ⇒ Ebadf ⨾ not y ⇒ Eperm ⨾ (eqb n 0 && not i) ⇒ Einval ⨾ (eqb n 4294967295 && i) ⇒ Eaddrinuse ⨾ done)
 unfolding ◌⇒◌⨾◌
 validate_order false y i n m = refl

@@ -12,10 +12,8 @@ use Rattle.answer.specs.Answer.{plain, refused}
 use Rattle.answer.specs.declared.Answer.{Answer}
 use Rattle.answer.specs.declared.Code.{Code}
 use Rattle.answer.specs.declared.Code.TheVariants.{Einval, Eperm, Ebadf}
-use Rattle.userspace_decide.specs.Decide.{answer_of}
+use Rattle.userspace_decide.specs.Decide.{Validated, answer_of}
 use Rattle.userspace.specs.Userspace.{THREADS, validated}
-use Rattle.userspace_decide.specs.declared.Validated.{Validated}
-use Rattle.userspace_decide.specs.declared.Validated.TheVariants.{Ok as Fine, Refused}
 use Rattle.userspace_names.specs.declared.InitCheck.{InitCheck}
 use Rattle.userspace.specs.declared.KernelObject.{KernelObject}
 use Rattle.tables.specs.Table.{HANDLES, no_object}
@@ -159,11 +157,7 @@ module _ (s : State) (c : Call) where
 
 -- a validation's answer has value 0, whatever it is
 pub validated_plain : {v w : Validated} → v ≡ w → plain (answer_of v).code ≡ answer_of w
-validated_plain {v} {w} e = go v ∙ ap answer_of e
-  where
-    go : (v : Validated) → plain (answer_of v).code ≡ answer_of v
-    go Fine = refl
-    go (Refused n) = refl
+validated_plain e = ap answer_of e
 
 -- the same validation of the same things
 pub validated_same :
