@@ -5,12 +5,15 @@ use native.Mathlib.Omega.{arith}
 use mathlib.Core.Path.{◌≡◌, refl, sym, ap, ◌∙◌}
 use mathlib.Core.Bool.{Bool, true, false, cond, ◌&&◌}
 use mathlib.Core.List.{List}
-use mathlib.Core.Logic.{◌⊎◌, inl, inr}
+use mathlib.Core.Logic.{◌⊎◌, inl, inr, ◌↔◌}
 use lib.Dec.{eqb, ltb}
 use borrow.Author.Tests.{eqb-true, eq-eqb, ne_eqb}
 use Rattle.answer.specs.declared.Answer.{Answer}
 use Rattle.userspace.specs.declared.KernelObject.{KernelObject}
 use Rattle.bits.specs.Bit.{bit_of, is_set}
+use Rattle.std.specs.Prelude.{Result, Ok, Err}
+use Rattle.answer.specs.declared.Code.{Code}
+use Rattle.answer.specs.declared.Code.TheVariants.{Einval}
 use Rattle.userspace.specs.Userspace.{THREADS, holds, granted, revoked, bit_answer}
 use Rattle.decoding.specs.declared.Call.{Call}
 use Rattle.decoding.specs.Calls.{create, delete, revoke, init, uninit, recycle, publish, thread, end, inherit, assign, add, remove, Op, validate, grant, release, check, exit, sup, unknown, op_of}
@@ -134,22 +137,27 @@ object_named (sup remove) c e = absurd (omega arith)
 object_named unknown c e = absurd (omega arith)
 
 -- ---- the leaf's bit query is what a heritage asks
-pub held_is : (o : KernelObject) (t : ℕ) → eqb (bit_answer o t).value 1 ≡ holds o t
-unfolding bit_answer holds is_set
-held_is o t = go (ltb t THREADS)
+pub held_is : (o : KernelObject) (t : ℕ) → (bit_answer o t ≡ Ok true) ↔ (holds o t ≡ true)
+unfolding bit_answer holds
+held_is o t = go (ltb t THREADS) (is_set o.word t)
   where
-    go : (b : Bool) → eqb (cond {A = Answer} b (record { code = 0; value = bit_of o.word t }) (record { code = 1; value = 0 })).value 1 ≡ b && eqb (bit_of o.word t) 1
-    go true = refl
-    go false = refl
+    go : (b s : Bool) → (cond {A = Result Bool Code} b (Ok s) (Err Einval) ≡ Ok true) ↔ (b && s ≡ true)
+    go true true = (λ e. refl, λ e. refl)
+    go true false = (λ e. cc, λ e. cc)
+    go false s = (λ e. cc, λ e. cc)
 
-module _ (o : KernelObject) (parent child : ℕ) (held : Answer) (e : held ≡ bit_answer o parent) where
-  pub heir : held.value ≡ 1 → (granted o child).object ≡ inherited parent child o
+module _ (o : KernelObject) (parent child : ℕ) (held : Result Bool Code) (e : held ≡ bit_answer o parent) where
+  pub heir : held ≡ Ok true → (granted o child).object ≡ inherited parent child o
   unfolding inherited
-  heir h = let q : holds o parent ≡ true = sym (held_is o parent) ∙ ap (λ r. eqb r.value 1) (sym e) ∙ eq-eqb _ _ h in rw q
+  heir h = let q = (held_is o parent).0 (sym e ∙ h) in rw q refl
 
-  pub no_heir : (held.value ≡ 1 → ⊥) → o ≡ inherited parent child o
+  pub no_heir : (held ≡ Ok true → ⊥) → o ≡ inherited parent child o
   unfolding inherited
-  no_heir h = let q : holds o parent ≡ false = sym (held_is o parent) ∙ ap (λ r. eqb r.value 1) (sym e) ∙ ne_eqb _ _ h in rw q
+  no_heir n = go (holds o parent) refl
+    where
+      go : (b : Bool) → holds o parent ≡ b → o ≡ cond b (granted o child).object o
+      go true q = absurd (n (e ∙ (held_is o parent).1 q))
+      go false q = refl
 
 -- ---- the parts of what a call makes of an object: whose bit goes, from one object or from each; the whole; the flags
 module _ (c : Call) (o : KernelObject) where

@@ -1,5 +1,6 @@
 -- On OK each operation changes exactly what is named here, and all else stays: every other object, thread and domain, every field not named. A refusal
 -- changes nothing.
+use Rattle.answer.specs.Answer.{code_in}
 use Prim.Native.Nat.{ℕ, ◌%◌, ◌<◌}
 use native.Mathlib.Nat.{mod-eq_of_lt}
 use native.Mathlib.Omega.{arith}
@@ -146,11 +147,11 @@ inherited_is o p c h g = rw (lt-ltb p THREADS h) (go (is_set o.word p) refl)
 set_is : (l : List MemPartition) → length l ≡ SLOTS → (j : ℕ) (p : MemPartition) → j < SLOTS → SlotIs j p l (set l j p)
 set_is l n j p b = record { below = b; slot = slot_same l j p (rw n b); others = λ i d. slot_other l j p i d }
 
-added_is : (l : List MemPartition) → length l ≡ SLOTS → (p : MemPartition) → (added (with_count l) p).code ≡ 0 → SlotIs (lowest_free l) p l (added (with_count l) p).domain.partitions
+added_is : (l : List MemPartition) → length l ≡ SLOTS → (p : MemPartition) → code_in (added (with_count l) p).answer ≡ 0 → SlotIs (lowest_free l) p l (added (with_count l) p).domain.partitions
 unfolding with_count changed_at
 added_is l n p e = rw (add_stores (with_count l) p e) (set_is l n (lowest_free l) p (free_below l (add_accepts (with_count l) p e).1))
 
-removed_is : (l : List MemPartition) → length l ≡ SLOTS → (start size : ℕ) → (removed (with_count l) start size).code ≡ 0
+removed_is : (l : List MemPartition) → length l ≡ SLOTS → (start size : ℕ) → code_in (removed (with_count l) start size).answer ≡ 0
     → SlotIs (lowest_window l start size) empty l (removed (with_count l) start size).domain.partitions
 unfolding with_count changed_at
 removed_is l n start size e =

@@ -1,4 +1,5 @@
 -- The slots of a domain that keep the rules keep them after an OK add and an OK remove.
+use Rattle.answer.specs.Answer.{code_in}
 use Prim.Native.Nat.{ℕ, ◌<◌}
 use native.Mathlib.Decide.{dec_lt, ℕ_discrete}
 use native.Mathlib.Omega.{arith}
@@ -59,7 +60,7 @@ empty_kept : SlotKept empty
 empty_kept = record { valid = λ e. absurd (false≢true e); rights = λ e. absurd (false≢true e); vacant = λ e. refl }
 
 module _ {l : List MemPartition} (s : SlotsKeep l) where
-  pub slots_added : (p : MemPartition) → attr_ok p.attr ≡ true → (added (with_count l) p).code ≡ 0 → SlotsKeep (added (with_count l) p).domain.partitions
+  pub slots_added : (p : MemPartition) → attr_ok p.attr ≡ true → code_in (added (with_count l) p).answer ≡ 0 → SlotsKeep (added (with_count l) p).domain.partitions
   unfolding with_count changed_at
   slots_added p a e =
       let (g, f) = add_accepts (with_count l) p e in
@@ -73,7 +74,7 @@ module _ {l : List MemPartition} (s : SlotsKeep l) where
       apart g j y (yes h) = addable_apart l p g j h y
       apart g j y (no h) = absurd (inactive_out l s.size j (omega arith) y)
 
-  pub slots_removed : (start size : ℕ) → (removed (with_count l) start size).code ≡ 0 → SlotsKeep (removed (with_count l) start size).domain.partitions
+  pub slots_removed : (start size : ℕ) → code_in (removed (with_count l) start size).answer ≡ 0 → SlotsKeep (removed (with_count l) start size).domain.partitions
   unfolding with_count changed_at
   slots_removed start size e =
       let (z, w) = remove_matches (with_count l) start size e in

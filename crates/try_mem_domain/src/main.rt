@@ -2,25 +2,24 @@
 // words to a case: a number of `step`, then its four arguments. tests/mem_domain/cases.py makes it, and works out `stdout` by a model.
 #![tactic(auto)]
 
-ghost use Rattle.std.specs.Prelude.{◌<◌};
 ghost use Rattle.std.specs.Io.{ReadsAtMost};
 
-use mem_domain::{Changed, MemDomain};
+use answer::{Answer, Code};
+use mem_domain::MemDomain;
 use mem_partition::MemPartition;
+use std::fmt::Display;
 use std::io;
 use std::io::Read;
+
+// How many bytes a case has.
+const CASE: usize = 20;
 
 fn main(rt: HostRuntime) -> io::Result<()> {
     let mut cases = [0u8; 65536];
     let n = read_full(&mut rt.stdin(), &mut cases)?;
     let mut d = MemDomain::init();
-    let mut at = 0;
-    while at < n {
-        d = step(&rt, d, &cases, at)?;
-        if at > 65516 {
-            break;
-        }
-        at += 20;
+    for case in cases.chunks_exact(CASE).take(n.div_ceil(CASE)) {
+        step(&rt, &mut d, case)?;
     }
     Ok(())
 }
@@ -41,84 +40,76 @@ fn read_full(from: &mut impl Read, into: &mut [u8]) -> io::Result<usize>
 }
 
 // One case. Steps 1 and 2 write into the record itself, so that any record can be tried, unsound ones too.
-fn step(rt: &impl Print, d: MemDomain, cases: &[u8; 65536], at: usize) -> io::Result<MemDomain> {
-    if at > 65516 {
-        return Ok(d);
-    }
-    let op = number(cases, at);
-    let a = number(cases, at + 4);
-    let b = number(cases, at + 8);
-    let c = number(cases, at + 12);
-    let e = number(cases, at + 16);
+fn step(rt: &impl Print, d: &mut MemDomain, case: &[u8]) -> io::Result<()> {
+    let op = number(case, 0);
+    let a = number(case, 4);
+    let b = number(case, 8);
+    let c = number(case, 12);
+    let e = number(case, 16);
     match op {
-        0 => made(rt),
-        1 => Ok(with_slot(d, a, part(b, c, e))),
-        2 => Ok(with_count(d, a)),
-        3 => changed(rt, "add", d.add_partition(part(a, b, c))),
-        4 => changed(rt, "remove", d.remove_partition(a, b)),
-        5 => asked(rt, d, a),
-        6 => windows(rt, d, part(a, b, 0), part(c, e, 0)),
-        _ => Ok(d),
+        0 => made(rt, d)?,
+        1 => put_slot(d, a, part(b, c, e)),
+        2 => d.num_partitions = a,
+        3 => {
+            let r = d.add_partition(part(a, b, c));
+            changed(rt, "add", r, *d)?;
+        }
+        4 => {
+            let r = d.remove_partition(a, b);
+            changed(rt, "remove", r, *d)?;
+        }
+        5 => asked(rt, *d, a)?,
+        6 => windows(rt, part(a, b, 0), part(c, e, 0))?,
+        _ => {}
     }
+    Ok(())
 }
 
-fn made(rt: &impl Print) -> io::Result<MemDomain> {
+fn made(rt: &impl Print, d: &mut MemDomain) -> io::Result<()> {
     word(rt, "init ")?;
-    let d = MemDomain::init();
-    state(rt, d)?;
-    Ok(d)
+    *d = MemDomain::init();
+    state(rt, *d)
 }
 
-fn with_slot(d: MemDomain, a: u32, p: MemPartition) -> MemDomain {
-    let mut next = d;
-    if a < mem_domain::MAX_PARTITIONS {
-        let k = a as usize;
-        next.partitions[k] = p;
+fn put_slot(d: &mut MemDomain, a: u32, p: MemPartition) {
+    if let Some(slot) = d.partitions.get_mut(a as usize) {
+        *slot = p;
     }
-    next
 }
 
-fn with_count(d: MemDomain, a: u32) -> MemDomain {
-    let mut next = d;
-    next.num_partitions = a;
-    next
-}
-
-fn changed(rt: &impl Print, name: &str, r: Changed) -> io::Result<MemDomain> {
+// The answer's number and value, and the domain after.
+fn changed(rt: &impl Print, name: &str, r: Result<u32, Code>, d: MemDomain) -> io::Result<()> {
     word(rt, name)?;
     word(rt, " ")?;
-    figure(rt, r.code)?;
-    figure(rt, r.value)?;
-    let d = r.domain;
-    state(rt, d)?;
-    Ok(d)
+    let told = Answer::from(r);
+    figure(rt, told.code)?;
+    figure(rt, told.value)?;
+    state(rt, d)
 }
 
 // Every question that a domain answers, with a as slot and as address.
-fn asked(rt: &impl Print, d: MemDomain, a: u32) -> io::Result<MemDomain> {
+fn asked(rt: &impl Print, d: MemDomain, a: u32) -> io::Result<()> {
     word(rt, "ask ")?;
     figure(rt, d.num_partitions_get())?;
     truth(rt, d.has_free_slot())?;
     truth(rt, d.contains_addr(a))?;
-    let g = d.partition_get(a);
-    figure(rt, g.code)?;
-    figure(rt, g.start)?;
-    figure(rt, g.size)?;
-    figure(rt, g.attr)?;
-    word(rt, "\n")?;
-    Ok(d)
+    got(rt, d.partition_get(a))?;
+    word(rt, "\n")
+}
+
+// The answer's number, and the slot's three fields, zeros on a refusal.
+fn got(rt: &impl Print, r: Result<MemPartition, Code>) -> io::Result<()> {
+    figure(rt, Answer::from(r.map(|_| ())).code)?;
+    let p = r.unwrap_or_default();
+    figure(rt, p.start)?;
+    figure(rt, p.size)?;
+    figure(rt, p.attr)
 }
 
 // Every question that windows answer, by the methods and by the free functions.
-fn windows(
-    rt: &impl Print,
-    d: MemDomain,
-    p: MemPartition,
-    q: MemPartition,
-) -> io::Result<MemDomain> {
+fn windows(rt: &impl Print, p: MemPartition, q: MemPartition) -> io::Result<()> {
     word(rt, "windows ")?;
-    rt.print(p.end_u64())?;
-    word(rt, " ")?;
+    figure(rt, p.end_u64())?;
     truth(rt, p.is_valid())?;
     truth(rt, mem_partition::partition_valid_decide(p.start, p.size))?;
     truth(rt, p.overlaps(q))?;
@@ -126,29 +117,24 @@ fn windows(
         rt,
         mem_partition::partitions_overlap_decide(p.start, p.size, q.start, q.size),
     )?;
-    word(rt, "\n")?;
-    Ok(d)
+    word(rt, "\n")
 }
 
 // The count, and each slot that is not all zero, by its number.
 fn state(rt: &impl Print, d: MemDomain) -> io::Result<()> {
     figure(rt, d.num_partitions)?;
-    let mut k = 0;
-    while k < 16 {
-        let p = d.partitions[k];
-        slot(rt, k, p)?;
-        k += 1;
+    for (k, p) in d.partitions.iter().enumerate() {
+        slot(rt, k, *p)?;
     }
     word(rt, "\n")
 }
 
 fn slot(rt: &impl Print, k: usize, p: MemPartition) -> io::Result<()> {
-    if p.start == 0 && p.size == 0 && p.attr == 0 {
+    if p == MemPartition::default() {
         return Ok(());
     }
     word(rt, "| ")?;
-    rt.print(k)?;
-    word(rt, " ")?;
+    figure(rt, k)?;
     figure(rt, p.start)?;
     figure(rt, p.size)?;
     figure(rt, p.attr)
@@ -159,10 +145,10 @@ fn part(start: u32, size: u32, attr: u32) -> MemPartition {
 }
 
 fn truth(rt: &impl Print, b: bool) -> io::Result<()> {
-    if b { word(rt, "yes ") } else { word(rt, "no ") }
+    word(rt, if b { "yes " } else { "no " })
 }
 
-fn figure(rt: &impl Print, n: u32) -> io::Result<()> {
+fn figure(rt: &impl Print, n: impl Display + Drop) -> io::Result<()> {
     rt.print(n)?;
     word(rt, " ")
 }
@@ -171,20 +157,10 @@ fn word(rt: &impl Print, text: &str) -> io::Result<()> {
     rt.print(text)
 }
 
-// The little-endian word at a place of the list, and 0 past its end.
-fn number(cases: &[u8; 65536], at: usize) -> u32 {
-    if at > 65532 {
-        return 0;
+// The little-endian word at a place of a case, and 0 past its end.
+fn number(case: &[u8], at: usize) -> u32 {
+    match case.get(at..) {
+        Some([b0, b1, b2, b3, ..]) => u32::from_le_bytes([*b0, *b1, *b2, *b3]),
+        _ => 0,
     }
-    let b0 = wide(cases[at]);
-    let b1 = wide(cases[at + 1]);
-    let b2 = wide(cases[at + 2]);
-    let b3 = wide(cases[at + 3]);
-    b0 + b1 * 256 + b2 * 65536 + b3 * 16777216
-}
-
-fn wide(b: u8) -> u32
-    ensures { result < 256 }
-{
-    b as u32
 }

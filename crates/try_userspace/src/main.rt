@@ -5,23 +5,22 @@
 
 ghost use Rattle.std.specs.Io.{ReadsAtMost};
 
+use answer::{Answer, Code};
+use std::fmt::Display;
 use std::io;
 use std::io::Read;
-use userspace::{Changed, KernelObject};
-use userspace_decide::Validated;
-use userspace_names::{InitCheck, NamedCheck, NamedType};
+use userspace::KernelObject;
+use userspace_names::InitCheck;
+
+// How many bytes a case has.
+const CASE: usize = 16;
 
 fn main(rt: HostRuntime) -> io::Result<()> {
     let mut cases = [0u8; 65536];
     let n = read_full(&mut rt.stdin(), &mut cases)?;
     let mut o = KernelObject::new(0);
-    let mut at = 0;
-    while at < 65536 {
-        if n <= at {
-            break;
-        }
-        o = step(&rt, o, &cases, at)?;
-        at += 16;
+    for case in cases.chunks_exact(CASE).take(n.div_ceil(CASE)) {
+        step(&rt, &mut o, case)?;
     }
     Ok(())
 }
@@ -42,84 +41,82 @@ fn read_full(from: &mut impl Read, into: &mut [u8]) -> io::Result<usize>
 }
 
 // One case. Step 0 puts the record itself, so that any record can be tried, unsound ones too.
-fn step(
-    rt: &impl Print,
-    o: KernelObject,
-    cases: &[u8; 65536],
-    at: usize,
-) -> io::Result<KernelObject> {
-    if at > 65520 {
-        return Ok(o);
+fn step(rt: &impl Print, o: &mut KernelObject, case: &[u8]) -> io::Result<()> {
+    let [op, a, b, c, ..] = case else {
+        return Ok(());
+    };
+    let n = number(case, 4);
+    match *op {
+        0..=9 => changes(rt, o, *op, *a, *b, n, wide(case, 8)),
+        10 => asks(rt, *o, n, *a == 1),
+        11 => validates(rt, *o, *a, n, *b == 1, *c),
+        12 => decides(rt, *a, *b, *c),
+        13 => names(rt, n, *c),
+        14 => constants(rt),
+        _ => word(rt, "?\n"),
     }
-    let op = byte(cases, at);
-    let a = byte(cases, at + 1);
-    let b = byte(cases, at + 2);
-    let c = byte(cases, at + 3);
-    let n = number(cases, at + 4);
-    if op < 10 {
-        return changes(
-            rt,
-            o,
-            op,
-            a,
-            b,
-            n,
-            wide(number(cases, at + 8), number(cases, at + 12)),
-        );
-    }
-    match op {
-        10 => asks(rt, o, n, a == 1)?,
-        11 => validates(rt, o, a, n, b == 1, c)?,
-        12 => decides(rt, a, b, c)?,
-        13 => names(rt, n, c)?,
-        14 => constants(rt)?,
-        _ => word(rt, "?\n")?,
-    }
-    Ok(o)
 }
 
 fn changes(
     rt: &impl Print,
-    o: KernelObject,
+    o: &mut KernelObject,
     op: u8,
     a: u8,
     b: u8,
     n: u32,
     w: u64,
-) -> io::Result<KernelObject> {
+) -> io::Result<()> {
     match op {
-        0 => Ok(KernelObject {
-            obj_type: a,
-            flags: b,
-            word: w,
-        }),
-        1 => became(rt, "new ", KernelObject::new(a)),
-        2 => changed(rt, "grant ", o.grant_access(n)),
-        3 => changed(rt, "revoke ", o.revoke_access(n)),
-        4 => changed(rt, "clear-thread ", o.clear_thread_perm(n)),
-        5 => became(rt, "clear-all ", o.clear_all_perms()),
-        6 => became(rt, "init ", o.init_object()),
-        7 => became(rt, "uninit ", o.uninit_object()),
-        8 => changed(rt, "recycle ", o.recycle(n)),
-        _ => became(rt, "make-public ", o.make_public()),
+        0 => {
+            *o = KernelObject {
+                obj_type: a,
+                flags: b,
+                word: w,
+            };
+            return Ok(());
+        }
+        1 => {
+            *o = KernelObject::new(a);
+            word(rt, "new ")?;
+        }
+        2 => answered(rt, "grant ", o.grant_access(n))?,
+        3 => answered(rt, "revoke ", o.revoke_access(n))?,
+        4 => answered(rt, "clear-thread ", o.clear_thread_perm(n))?,
+        5 => {
+            o.clear_all_perms();
+            word(rt, "clear-all ")?;
+        }
+        6 => {
+            o.init_object();
+            word(rt, "init ")?;
+        }
+        7 => {
+            o.uninit_object();
+            word(rt, "uninit ")?;
+        }
+        8 => answered(rt, "recycle ", o.recycle(n))?,
+        _ => {
+            o.make_public();
+            word(rt, "make-public ")?;
+        }
     }
+    became(rt, *o)
 }
 
-fn changed(rt: &impl Print, name: &str, r: Changed) -> io::Result<KernelObject> {
+// The answer's number and value.
+fn answered(rt: &impl Print, name: &str, r: Result<(), Code>) -> io::Result<()> {
     word(rt, name)?;
-    figure(rt, r.code)?;
-    figure(rt, r.value)?;
-    let o = r.object;
-    became(rt, "", o)
+    let told = Answer::from(r);
+    figure(rt, told.code)?;
+    figure(rt, told.value)
 }
 
-fn became(rt: &impl Print, name: &str, o: KernelObject) -> io::Result<KernelObject> {
-    word(rt, name)?;
-    small(rt, o.obj_type)?;
-    small(rt, o.flags)?;
+// The record after.
+fn became(rt: &impl Print, o: KernelObject) -> io::Result<()> {
+    figure(rt, o.obj_type)?;
+    figure(rt, o.flags)?;
     rt.print(o.word)?;
-    word(rt, "\n")?;
-    Ok(o)
+    word(rt, "\n")
 }
 
 // Every question that a record answers.
@@ -130,10 +127,10 @@ fn asks(rt: &impl Print, o: KernelObject, n: u32, supervisor: bool) -> io::Resul
     truth(rt, o.is_public())?;
     truth(rt, o.is_alloc())?;
     truth(rt, o.is_driver())?;
-    let r = o.has_perm(n);
-    figure(rt, r.code)?;
-    figure(rt, r.value)?;
-    small(rt, o.obj_type_get())?;
+    let told = Answer::from(o.has_perm(n).map(|held| u32::from(held)));
+    figure(rt, told.code)?;
+    figure(rt, told.value)?;
+    figure(rt, o.obj_type_get())?;
     word(rt, "\n")
 }
 
@@ -145,27 +142,28 @@ fn validates(
     supervisor: bool,
     c: u8,
 ) -> io::Result<()> {
+    let check = match c {
+        0 => InitCheck::MustBeInit,
+        1 => InitCheck::MustNotBeInit,
+        _ => InitCheck::DontCare,
+    };
     word(rt, "validate ")?;
-    match c {
-        0 => verdict(rt, o.validate(a, n, supervisor, InitCheck::MustBeInit))?,
-        1 => verdict(rt, o.validate(a, n, supervisor, InitCheck::MustNotBeInit))?,
-        _ => verdict(rt, o.validate(a, n, supervisor, InitCheck::DontCare))?,
-    }
+    verdict(rt, o.validate(a, n, supervisor, check))?;
     word(rt, "\n")
 }
 
 // The free functions: bits 0 to 2 of a are the yes or no, b the flags, c the mode.
 fn decides(rt: &impl Print, a: u8, b: u8, c: u8) -> io::Result<()> {
     word(rt, "decide ")?;
-    let x = a % 2 == 1;
-    let y = a / 2 % 2 == 1;
-    let z = a / 4 % 2 == 1;
+    let x = a & 1 != 0;
+    let y = a & 2 != 0;
+    let z = a & 4 != 0;
     truth(rt, userspace_decide::access_decide(x, y))?;
     verdict(rt, userspace_decide::validate_decide(x, y, z, mode(c)))?;
-    small(rt, userspace_decide::init_flags_decide(b))?;
-    small(rt, userspace_decide::uninit_flags_decide(b))?;
-    small(rt, userspace_decide::recycle_flags_decide(b))?;
-    small(rt, userspace_decide::make_public_flags_decide(b))?;
+    figure(rt, userspace_decide::init_flags_decide(b))?;
+    figure(rt, userspace_decide::uninit_flags_decide(b))?;
+    figure(rt, userspace_decide::recycle_flags_decide(b))?;
+    figure(rt, userspace_decide::make_public_flags_decide(b))?;
     word(rt, "\n")
 }
 
@@ -173,30 +171,30 @@ fn decides(rt: &impl Print, a: u8, b: u8, c: u8) -> io::Result<()> {
 fn names(rt: &impl Print, n: u32, c: u8) -> io::Result<()> {
     word(rt, "name ")?;
     match userspace_names::obj_type_of(n) {
-        NamedType::Is(t) => small(rt, userspace_names::obj_type_number(t))?,
-        NamedType::Nothing => word(rt, "- ")?,
+        Some(t) => figure(rt, userspace_names::obj_type_number(t))?,
+        None => word(rt, "- ")?,
     }
     match userspace_names::init_check_of(wide_mode(c)) {
-        NamedCheck::Is(k) => signed(rt, userspace_names::init_check_number(k))?,
-        NamedCheck::Nothing => word(rt, "-")?,
+        Some(k) => rt.print(userspace_names::init_check_number(k))?,
+        None => word(rt, "-")?,
     }
     word(rt, "\n")
 }
 
 fn constants(rt: &impl Print) -> io::Result<()> {
     word(rt, "constants ")?;
-    small(rt, KernelObject::INITIALIZED)?;
-    small(rt, KernelObject::PUBLIC)?;
-    small(rt, KernelObject::ALLOC)?;
-    small(rt, KernelObject::DRIVER)?;
+    figure(rt, KernelObject::INITIALIZED)?;
+    figure(rt, KernelObject::PUBLIC)?;
+    figure(rt, KernelObject::ALLOC)?;
+    figure(rt, KernelObject::DRIVER)?;
     figure(rt, userspace::MAX_THREADS)?;
     word(rt, "\n")
 }
 
-fn verdict(rt: &impl Print, v: Validated) -> io::Result<()> {
+fn verdict(rt: &impl Print, v: Result<(), Code>) -> io::Result<()> {
     match v {
-        Validated::Ok => word(rt, "ok "),
-        Validated::Refused(n) => figure(rt, n),
+        Ok(()) => word(rt, "ok "),
+        Err(c) => figure(rt, answer::number(c)),
     }
 }
 
@@ -225,24 +223,11 @@ fn wide_mode(c: u8) -> i32 {
     }
 }
 
-fn signed(rt: &impl Print, v: i8) -> io::Result<()> {
-    match v {
-        0 => word(rt, "0"),
-        -1 => word(rt, "-1"),
-        1 => word(rt, "1"),
-        _ => word(rt, "another value"),
-    }
-}
-
 fn truth(rt: &impl Print, b: bool) -> io::Result<()> {
-    if b { word(rt, "yes ") } else { word(rt, "no ") }
+    word(rt, if b { "yes " } else { "no " })
 }
 
-fn small(rt: &impl Print, n: u8) -> io::Result<()> {
-    figure(rt, n as u32)
-}
-
-fn figure(rt: &impl Print, n: u32) -> io::Result<()> {
+fn figure(rt: &impl Print, n: impl Display + Drop) -> io::Result<()> {
     rt.print(n)?;
     word(rt, " ")
 }
@@ -251,30 +236,19 @@ fn word(rt: &impl Print, text: &str) -> io::Result<()> {
     rt.print(text)
 }
 
-fn wide(low: u32, high: u32) -> u64 {
-    (low as u64) + (high as u64) * 4294967296
-}
-
-// The byte and the little-endian word at a place of the list, and 0 past its end.
-fn byte(cases: &[u8; 65536], at: usize) -> u8 {
-    if at > 65535 {
-        return 0;
+// The little-endian words at a place of a case, and 0 past its end.
+fn number(case: &[u8], at: usize) -> u32 {
+    match case.get(at..) {
+        Some([b0, b1, b2, b3, ..]) => u32::from_le_bytes([*b0, *b1, *b2, *b3]),
+        _ => 0,
     }
-    cases[at]
 }
 
-fn number(cases: &[u8; 65536], at: usize) -> u32 {
-    if at > 65532 {
-        return 0;
+fn wide(case: &[u8], at: usize) -> u64 {
+    match case.get(at..) {
+        Some([b0, b1, b2, b3, b4, b5, b6, b7, ..]) => {
+            u64::from_le_bytes([*b0, *b1, *b2, *b3, *b4, *b5, *b6, *b7])
+        }
+        _ => 0,
     }
-    join(
-        byte(cases, at),
-        byte(cases, at + 1),
-        byte(cases, at + 2),
-        byte(cases, at + 3),
-    )
-}
-
-fn join(b0: u8, b1: u8, b2: u8, b3: u8) -> u32 {
-    (b0 as u32) + (b1 as u32) * 256 + (b2 as u32) * 65536 + (b3 as u32) * 16777216
 }
