@@ -1,2 +1,1 @@
-pub mod Modes
 pub mod Unique
