@@ -3,7 +3,8 @@
 use Prim.Native.Nat.{ℕ, suc, ◌+◌, ◌*◌, ◌/◌, ◌≤◌, ◌<◌}
 use Rattle.std.proofs.Common.{zero-add, add-one, sym, subst, ◌∙◌, length-append}
 use native.Mathlib.Omega.{arith}
-use Rattle.std.specs.Prelude.{◌≡◌, List, ◌++◌}
+use Rattle.std.specs.Prelude.{◌≡◌, List, ◌++◌, Ok, Err}
+use Rattle.answer.specs.declared.Code.TheVariants.{Einval, Room}
 use Rattle.std.proofs.Math.Path.{refl}
 use Rattle.std.proofs.Math.ListN.{length}
 use Rattle.std.proofs.lemmas.List.Edits.{sets}
@@ -11,7 +12,7 @@ use borrow.Author.Tests.{lt-ltb, le-ltb}
 use Rattle.answer.specs.Stores.{cat, behind, sets_front}
 use Rattle.text.specs.Text.{decimal, Put}
 use Rattle.text.specs.Laws.{decimal_most, put_count_lem, put_text}
-use Rattle.lines.specs.Lines.{lines_answer, text_after, put_with, Lines}
+use Rattle.lines.specs.Lines.{lines_answer, text_after, Lines}
 
 pub record Piece (before : List ℕ) (at most : ℕ) (xs : List ℕ) (r : ℕ) (after : List ℕ) : Type 0 where
   pub next : r ≡ at + length xs
@@ -60,13 +61,13 @@ module _ (f : ℕ → List ℕ) (most : ℕ) where
 -- ---- the three answers
 
 module _ (f : ℕ → List ℕ) (longest : ℕ) (out : List ℕ) (n : ℕ) where
-  pub few : (text : List ℕ) → length out / 2 < n → Lines f longest out n text (put_with 1 0) text
+  pub few : (text : List ℕ) → length out / 2 < n → Lines f longest out n text (Err Einval) text
   unfolding lines_answer text_after
   few text h =
       let t = lt-ltb (length out) (2 * n) (omega arith) in
       record { answer = rw t refl; text = rw t refl }
 
-  pub small : (text : List ℕ) → n ≤ length out / 2 → length text < longest * n → Lines f longest out n text (put_with 11 0) text
+  pub small : (text : List ℕ) → n ≤ length out / 2 → length text < longest * n → Lines f longest out n text (Err Room) text
   unfolding lines_answer text_after
   small text g h =
       let s = le-ltb (length out) (2 * n) (omega arith) in
@@ -74,7 +75,7 @@ module _ (f : ℕ → List ℕ) (longest : ℕ) (out : List ℕ) (n : ℕ) where
       record { answer = rw (s, t) refl; text = rw (s, t) refl }
 
   pub all : (text after : List ℕ) (r : ℕ) → n ≤ length out / 2 → longest * n ≤ length text → Piece text 0 (longest * n) (cat f n) r after
-      → Lines f longest out n text (put_with 0 r) after
+      → Lines f longest out n text (Ok r) after
   unfolding lines_answer text_after
   all text after r g h p =
       let s = le-ltb (length out) (2 * n) (omega arith) in

@@ -1,18 +1,13 @@
--- Laws of putting bytes into a buffer: a turn of each loop, and a put that has room.
-use Prim.Native.Nat.{ℕ, suc, ◌+◌, ◌-◌, ◌/◌, ◌%◌, ◌≤◌, ◌<◌, max}
-use native.Mathlib.Nat.{add-zero}
-use native.Mathlib.Numerals.{add-one}
-use native.Mathlib.Decide.{dec_le}
-use native.Mathlib.Omega.{arith}
-use borrow.Author.Tests.{le-leb, lt-leb}
-use mathlib.Core.Path.{◌≡◌, refl, sym, ap, ◌∙◌}
-use mathlib.Core.Bool.{true, false}
-use mathlib.Core.List.{List, [], ◌∷◌, ◌++◌}
-use lib.Dec.{leb}
-use lib.ListN.{length, get_or, set, drop}
-use lib.Seq.{sets, set_comm, drop-cons}
-use Rattle.text.specs.Laws.{digits_length, decimal_length, hex_digits_length, hex_length}
-use Rattle.text.specs.Text.{places, digits, decimal, hex_digit, hex_places, hex_digits, hex, put_at, put_count, Put}
+-- Laws of putting bytes into a buffer: a turn of `spell`, and a put that has room or has not.
+use Rattle.std.proofs.Common.{◌≡◌, ℕ, zero, suc, ◌+◌, ◌-◌, ◌/◌, ◌%◌, ◌<◌, ◌≤◌, true, false, leb, List, [], ◌∷◌, ◌++◌, length, set, refl, sym, ap, ◌∙◌, add-zero, add-one, arith, length-append, count_by, nat_le, max}
+use Rattle.std.proofs.Common.{append_assoc, drop-drop, lt-ltb}
+use Rattle.std.proofs.lemmas.Bool.Decides.{nat_tests}
+use native.Mathlib.Nat.{add-sub_cancel_left}
+use borrow.Rule.Slice.PartMut.{put_mid}
+use Rattle.text.specs.declared.TheConstants.{TENS, SIXTEENS}
+use Rattle.std.proofs.Math.Seq.{set_comm}
+use Rattle.std.proofs.lemmas.List.Edits.{sets, sets-eq}
+use Rattle.text.specs.Text.{places, digits, decimal, hex_digit, hex_places, hex_digits, hex, digits_in, put_at, put_count, Put}
 
 -- the last store can come first: no other one touches its place
 pub sets_last : (xs l : List ℕ) (at d : ℕ) → sets l at (xs ++ (d ∷ [])) ≡ sets (set l (at + length xs) d) at xs
@@ -21,61 +16,57 @@ sets_last (x ∷ xs) l at d =
     let e : suc at + length xs ≡ at + suc (length xs) = omega arith in
     sets_last xs (set l at x) (suc at) d ∙ rw (e, set_comm l at (at + suc (length xs)) x d (λ f. omega arith)) refl
 
+pub digits_in_length : (base k n : ℕ) → length (digits_in base k n) ≡ k
+unfolding digits_in
+digits_in_length base zero n = refl
+digits_in_length base (suc k) n = length-append (digits_in base k (n / base)) _ ∙ rw (digits_in_length base k (n / base)) (add-one k)
+
 -- a turn of `spell`
-pub spell_turn : (l : List ℕ) (at i w : ℕ) → 0 < i → sets l at (digits i w) ≡ sets (set l (at + (i - 1)) (48 + w % 10)) at (digits (i - 1) (w / 10))
-unfolding digits
-spell_turn l at i w h =
+pub spell_turn : (base : ℕ) (l : List ℕ) (at i w : ℕ) {d : ℕ} → 0 < i → d ≡ hex_digit (w % base)
+    → sets (set l (at + (i - 1)) d) at (digits_in base (i - 1) (w / base)) ≡ sets l at (digits_in base i w)
+unfolding digits_in
+spell_turn base l at i w {d} h e =
     let j : i ≡ suc (i - 1) = omega arith in
-    ap (λ k. sets l at (digits k w)) j ∙ sets_last (digits (i - 1) (w / 10)) l at (48 + w % 10) ∙ rw (digits_length (i - 1) (w / 10)) refl
-
--- a turn of `spell_hex`
-pub spell_hex_turn : (l : List ℕ) (at i w : ℕ) {d : ℕ} → 0 < i → d ≡ hex_digit (w % 16)
-    → sets l at (hex_digits i w) ≡ sets (set l (at + (i - 1)) d) at (hex_digits (i - 1) (w / 16))
-unfolding hex_digits
-spell_hex_turn l at i w {d} h e =
-    let j : i ≡ suc (i - 1) = omega arith in
-    ap (λ k. sets l at (hex_digits k w)) j ∙ sets_last (hex_digits (i - 1) (w / 16)) l at (hex_digit (w % 16)) ∙ rw (hex_digits_length (i - 1) (w / 16), e) refl
-
--- a turn of `copy`
-pub copy_turn : (l s : List ℕ) (at i : ℕ) → i < length s → sets l (at + i) (drop i s) ≡ sets (set l (at + i) (get_or s i 0)) (at + (i + 1)) (drop (i + 1) s)
-copy_turn l s at i h =
-    let e : at + (i + 1) ≡ suc (at + i) = omega arith in
-    rw (drop-cons s i 0 h, e, add-one) refl
+    sym (ap (λ k. sets l at (digits_in base k w)) j ∙ sets_last (digits_in base (i - 1) (w / base)) l at (hex_digit (w % base)) ∙ rw (digits_in_length base (i - 1) (w / base), e) refl)
 
 -- ---- a put that has room, and one that has not
 
-pub no_room : (text xs : List ℕ) (at k : ℕ) → length xs ≡ k → leb (at + k) (length text) ≡ false → Put text at xs 0 text
+pub no_room : {text xs : List ℕ} {at k : ℕ} → length xs ≡ k → leb (at + k) (length text) ≡ false → Put text at xs 0 text
 unfolding put_at put_count
-no_room text xs at k e h = record { count = rw (e, h) refl; text = rw (e, h) refl }
+no_room e h = record { count = rw (e, h) refl; text = rw (e, h) refl }
 
-pub has_put : (text xs text' : List ℕ) (at k : ℕ) → length xs ≡ k → leb (at + k) (length text) ≡ true → text' ≡ sets text at xs → Put text at xs k text'
+pub has_put : {text xs text' : List ℕ} {at k : ℕ} → length xs ≡ k → leb (at + k) (length text) ≡ true → text' ≡ sets text at xs → Put text at xs k text'
 unfolding put_at put_count
-has_put text xs text' at k e h p = record { count = rw (e, h) refl; text = p ∙ sym (rw (e, h) refl) }
+has_put e h p = record { count = rw (e, h) refl; text = p ∙ sym (rw (e, h) refl) }
 
--- ---- whether there is room, by a difference instead of a sum
+-- as the write of a part of the buffer leaves it
+pub part_set : (text word : List ℕ) (at : ℕ) → at + length word ≤ length text → put_mid at (at + length word - at) text word ≡ sets text at word
+part_set text word at h = rw (add-sub_cancel_left at (length word), sets-eq word text at h, drop-drop) (simp append_assoc)
 
-pub past : (room at n : ℕ) → room < at → false ≡ leb (at + n) room
-past room at n h = sym (lt-leb (at + n) room (omega arith))
+-- ---- numbers: the digits of a base are those of the specification
 
-pub within : (room at n : ℕ) → at ≤ room → leb n (room - at) ≡ leb (at + n) room
-within room at n h =
-    elim (dec_le n (room - at)) [
-      | yes k ↦ le-leb n (room - at) k ∙ sym (le-leb (at + n) room (omega arith))
-      | no k ↦ lt-leb n (room - at) (omega arith) ∙ sym (lt-leb (at + n) room (omega arith))
-    ]
+digits_ten : (k n : ℕ) → digits_in 10 k n ≡ digits k n
+unfolding digits_in digits hex_digit
+digits_ten zero n = refl
+digits_ten (suc k) n = rw (digits_ten k (n / 10), lt-ltb (n % 10) 10 (omega arith)) refl
 
--- as `put_number` has it: the digits were counted first
-pub number_put : (text after : List ℕ) (at n k : ℕ) → k ≡ places n → leb (at + k) (length text) ≡ true → after ≡ sets text at (digits k n)
-    → Put text at (decimal n) k after
+digits_sixteen : (k n : ℕ) → digits_in 16 k n ≡ hex_digits k n
+unfolding digits_in hex_digits
+digits_sixteen zero n = refl
+digits_sixteen (suc k) n = rw (digits_sixteen k (n / 16)) refl
+
+tens : (n : ℕ) → count_by (λ power. nat_le power n) TENS + 1 ≡ places n
+unfolding places
+tens n = grind (arith, nat_tests)
+
+sixteens : (n : ℕ) → count_by (λ power. nat_le power n) SIXTEENS + 1 ≡ hex_places n
+unfolding hex_places
+sixteens n = grind (arith, nat_tests)
+
+pub in_decimal : (n : ℕ) {k : ℕ} → k ≡ count_by (λ power. nat_le power n) TENS + 1 → digits_in 10 k n ≡ decimal n
 unfolding decimal
-number_put text after at n k e h p = has_put text (decimal n) after at k (decimal_length n ∙ sym e) h (p ∙ rw e refl)
+in_decimal n {k} e = digits_ten k n ∙ ap (λ (j : ℕ). digits j n) (e ∙ tens n)
 
-pub hex_put : (text after : List ℕ) (at least n k p : ℕ) → p ≡ hex_places n → k ≡ max least p → leb (at + k) (length text) ≡ true
-    → after ≡ sets text at (hex_digits k n) → Put text at (hex least n) k after
+pub in_hex : (least n : ℕ) {k p : ℕ} → p ≡ count_by (λ power. nat_le power n) SIXTEENS + 1 → k ≡ max least p → digits_in 16 k n ≡ hex least n
 unfolding hex
-hex_put text after at least n k p q e h s =
-    let f : k ≡ max least (hex_places n) = e ∙ rw q refl in
-    has_put text (hex least n) after at k (hex_length least n ∙ sym f) h (s ∙ rw f refl)
-
-pub no_hex : (text : List ℕ) (at least n k p : ℕ) → p ≡ hex_places n → k ≡ max least p → leb (at + k) (length text) ≡ false → Put text at (hex least n) 0 text
-no_hex text at least n k p q e h = no_room text (hex least n) at k (hex_length least n ∙ sym (e ∙ rw q refl)) h
+in_hex least n {k} {p} e f = digits_sixteen k n ∙ ap (λ (j : ℕ). hex_digits j n) (f ∙ ap (λ (j : ℕ). max least j) (e ∙ sixteens n))

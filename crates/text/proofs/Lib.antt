@@ -1,4 +1,4 @@
-pub mod Laws
-pub mod Unique
 pub mod Decimal
 pub mod Hex
+pub mod Laws
+pub mod Unique

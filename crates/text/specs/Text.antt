@@ -51,6 +51,11 @@ unfoldable pub hex_digits : ℕ → ℕ → List ℕ
 hex_digits zero n = []
 hex_digits (suc k) n = hex_digits k (n / 16) ++ (hex_digit (n % 16) ∷ [])
 
+-- the last k digits in a base up to 16, as the functions inside put them
+unfoldable pub digits_in : ℕ → ℕ → ℕ → List ℕ
+digits_in base zero n = []
+digits_in base (suc k) n = digits_in base k (n / base) ++ (hex_digit (n % base) ∷ [])
+
 -- a number in base 16 with at least so many digits: no more zeros in front than they ask
 unfoldable pub hex : ℕ → ℕ → List ℕ
 hex least n = hex_digits (max least (hex_places n)) n

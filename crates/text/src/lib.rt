@@ -3,79 +3,49 @@
 // they are; where they have no room nothing is written, and the count is 0. What lies around them stays.
 #![tactic(auto)]
 
-ghost use Rattle.std.specs.Prelude.{◌≡◌, ◌+◌, ◌<◌, ◌≤◌, max, leb, length};
+ghost use Rattle.std.specs.Prelude.{◌≡◌, ◌+◌, ◌<◌, ◌≤◌, count_by, leb, length, nat_le};
 ghost use Rattle.std.proofs.lemmas.List.Edits.{sets};
-ghost use Rattle.text.specs.Text.{places as places·spec, digits, decimal, hex_digit, hex_places, hex_digits, hex, Put};
+ghost use Rattle.text.specs.Text.{decimal, digits_in, hex_digit, hex, Put};
 
-fn places(n: u32) -> usize
-    ensures { result ≡ places·spec n }
+// The powers of a base that 32 bits hold: a number has a digit more than there are powers up to it.
+const TENS: [u32; 9] = [
+    10,
+    100,
+    1_000,
+    10_000,
+    100_000,
+    1_000_000,
+    10_000_000,
+    100_000_000,
+    1_000_000_000,
+];
+
+const SIXTEENS: [u32; 7] = [
+    0x10,
+    0x100,
+    0x1000,
+    0x1_0000,
+    0x10_0000,
+    0x100_0000,
+    0x1000_0000,
+];
+
+fn places(powers: &[u32], n: u32) -> usize
+    ensures { result ≡ count_by (λ power. nat_le power n) powers.now + 1 }
 {
-    if n < 10 {
-        return 1;
-    }
-    if n < 100 {
-        return 2;
-    }
-    if n < 1000 {
-        return 3;
-    }
-    if n < 10000 {
-        return 4;
-    }
-    if n < 100000 {
-        return 5;
-    }
-    if n < 1000000 {
-        return 6;
-    }
-    if n < 10000000 {
-        return 7;
-    }
-    if n < 100000000 {
-        return 8;
-    }
-    if n < 1000000000 {
-        return 9;
-    }
-    10
+    powers.iter().filter(|power| **power <= n).count() + 1
 }
 
 // Whether n bytes have room from a place on; no sum, so that none can wrap.
 pub fn has_room(text: &[u8], at: usize, n: usize) -> bool
     ensures { result ≡ leb (at + n) (length text.now) }
 {
-    if text.len() < at {
-        return false;
-    }
-    n <= text.len() - at
+    at <= text.len() && n <= text.len() - at
 }
 
-// The last k digits of n, from the last place to the first.
-fn spell(text: &mut [u8], at: usize, k: usize, n: u32)
-    requires { at + k ≤ length text.old }
-    ensures { text.new ≡ sets text.old at (digits k n) }
-{
-    let mut i = k;
-    let mut rest = n;
-    while 0 < i {
-        i -= 1;
-        text[at + i] = 48 + (rest % 10) as u8;
-        rest = rest / 10;
-    }
-}
-
-pub fn put_number(text: &mut [u8], at: usize, n: u32) -> usize
-    ensures { Put text.old at (decimal n) result text.new }
-{
-    let k = places(n);
-    if !has_room(text, at, k) {
-        return 0;
-    }
-    spell(text, at, k, n);
-    k
-}
-
-fn hex_digit(d: u32) -> u8
+// A digit of a base up to 16.
+#[tactic(auto, unfolding(crate::specs::Text::hex_digit))]
+fn digit(d: u32) -> u8
     requires { d < 16 }
     ensures { result ≡ hex_digit d }
 {
@@ -85,77 +55,41 @@ fn hex_digit(d: u32) -> u8
     55 + d as u8
 }
 
-fn hex_places(n: u32) -> usize
-    ensures { result ≡ hex_places n }
+// The last k digits of n, from the last place to the first.
+fn spell<const BASE: u32>(text: &mut [u8], at: usize, k: usize, n: u32)
+    requires base { (1 < BASE) × (BASE ≤ 16) }
+    requires room { at + k ≤ length text.old }
+    ensures { text.new ≡ sets text.old at (digits_in BASE k n) }
 {
-    if n < 16 {
-        return 1;
-    }
-    if n < 256 {
-        return 2;
-    }
-    if n < 4096 {
-        return 3;
-    }
-    if n < 65536 {
-        return 4;
-    }
-    if n < 1048576 {
-        return 5;
-    }
-    if n < 16777216 {
-        return 6;
-    }
-    if n < 268435456 {
-        return 7;
-    }
-    8
-}
-
-fn greater(a: usize, b: usize) -> usize
-    ensures { result ≡ max a b }
-{
-    if a < b {
-        return b;
-    }
-    a
-}
-
-// The last k digits of n in base 16, from the last place to the first.
-fn spell_hex(text: &mut [u8], at: usize, k: usize, n: u32)
-    requires { at + k ≤ length text.old }
-    ensures { text.new ≡ sets text.old at (hex_digits k n) }
-{
-    let mut i = k;
     let mut rest = n;
-    while 0 < i {
-        i -= 1;
-        text[at + i] = hex_digit(rest % 16);
-        rest = rest / 16;
+    for i in (0..k).rev() {
+        text[at + i] = digit(rest % BASE);
+        rest /= BASE;
     }
+}
+
+fn put_digits<const BASE: u32>(text: &mut [u8], at: usize, k: usize, n: u32) -> usize
+    requires { (1 < BASE) × (BASE ≤ 16) }
+    ensures { Put text.old at (digits_in BASE k n) result text.new }
+{
+    if !has_room(text, at, k) {
+        return 0;
+    }
+    spell::<BASE>(text, at, k, n);
+    k
+}
+
+pub fn put_number(text: &mut [u8], at: usize, n: u32) -> usize
+    ensures { Put text.old at (decimal n) result text.new }
+{
+    put_digits::<10>(text, at, places(&TENS, n), n)
 }
 
 // At least so many digits.
 pub fn put_hex(text: &mut [u8], at: usize, least: usize, n: u32) -> usize
     ensures { Put text.old at (hex least n) result text.new }
 {
-    let k = greater(least, hex_places(n));
-    if !has_room(text, at, k) {
-        return 0;
-    }
-    spell_hex(text, at, k, n);
-    k
-}
-
-fn copy(text: &mut [u8], at: usize, word: &[u8])
-    requires { at + length word.now ≤ length text.old }
-    ensures { text.new ≡ sets text.old at word.now }
-{
-    let mut i = 0;
-    while i < word.len() {
-        text[at + i] = word[i];
-        i += 1;
-    }
+    put_digits::<16>(text, at, least.max(places(&SIXTEENS, n)), n)
 }
 
 pub fn put_word(text: &mut [u8], at: usize, word: &[u8]) -> usize
@@ -164,6 +98,6 @@ pub fn put_word(text: &mut [u8], at: usize, word: &[u8]) -> usize
     if !has_room(text, at, word.len()) {
         return 0;
     }
-    copy(text, at, word);
+    text[at..at + word.len()].copy_from_slice(word);
     word.len()
 }

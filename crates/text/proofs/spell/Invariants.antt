@@ -1,12 +1,7 @@
-use mathlib.Core.Path.{◌≡◌}
-use Prim.Native.Nat.{◌≤◌}
-use lib.ListN.{length}
-use lib.Seq.{sets}
-use Rattle.text.specs.Text.{digits}
+use Rattle.std.proofs.Common.{◌≡◌}
+use Rattle.std.proofs.lemmas.List.Edits.{sets}
+use Rattle.text.specs.Text.{digits_in}
 use Rattle.text.proofs.spell.Given as goal
 
 abbrev pub invariant-loop-i : goal.invariant-loop-i
-invariant-loop-i l = (l.i ≤ l.k) × ((length l.text ≡ length l.initial.text) × (sets l.text l.at (digits l.i l.rest) ≡ sets l.initial.text l.at (digits l.k l.n)))
-
-abbrev pub decreases-loop-i : goal.decreases-loop-i
-decreases-loop-i l = l.i
+invariant-loop-i g l = sets l.text l.at (digits_in g.row.BASE l.i l.rest) ≡ sets l.initial.text l.at (digits_in g.row.BASE l.k l.n)
