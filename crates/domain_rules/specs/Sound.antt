@@ -1,6 +1,6 @@
 -- The rules of a domain's slots and of its record: docs/SPEC.md, 2.14 and 3.32 to 3.34.
 -- Slots are a list of any origin, so that a state's tables can be judged by the same rules.
-use Rattle.std.specs.Prelude.{ℕ, ◌≡◌, Bool, true, false, cond, not, ◌&&◌, ◌||◌, List, eqb, length}
+use Rattle.std.specs.Prelude.{ℕ, ◌<◌, ◌≡◌, Bool, true, false, cond, not, ◌&&◌, ◌||◌, List, eqb, length}
 use Rattle.mem_partition.specs.Partition.{empty, is_free, is_active, is_valid, overlap_of}
 use Rattle.mem_domain.specs.Domain.{slots, slot_at, active_count}
 use Rattle.mem_partition.specs.declared.MemPartition.{MemPartition}
@@ -27,6 +27,10 @@ slot_ok p = cond (is_free p) (eqb p.start 0 && eqb p.attr 0) (is_valid p && attr
 unfoldable pub apart_of : MemPartition → MemPartition → Bool
 apart_of p q = is_free p || (is_free q || not (overlap_of p q))
 
+-- q overlaps no active slot below n
+abbrev pub clear_of : List MemPartition → MemPartition → ℕ → Bool
+clear_of l q = all_to (λ j. apart_of (slot_at l j) q)
+
 -- slot k overlaps no active slot below n
 abbrev pub apart_to : List MemPartition → ℕ → ℕ → Bool
 apart_to l k = all_to (λ j. apart_of (slot_at l j) (slot_at l k))
@@ -42,3 +46,13 @@ slots_sound l = all_to (slot_sound l) slots
 -- the slots keep the rules, and the count is how many of them are active (SPEC 3.33)
 unfoldable pub domain_sound : MemDomain → Bool
 domain_sound d = slots_sound d.partitions && eqb d.num_partitions (active_count d.partitions)
+
+-- ---- slots that a closure gives: what it takes, and what it gives (`pre` and `post` of its calls)
+
+-- it may be asked for each of the sixteen
+abbrev pub Serves : (ℕ → Type 0) → Type 0
+Serves pre = (k : ℕ) → k < slots → pre k
+
+-- what it gives at k is slot k of the list
+abbrev pub Gives : (ℕ → MemPartition → Type 0) → List MemPartition → Type 0
+Gives post l = (k : ℕ) (p : MemPartition) → k < slots → post k p → p ≡ slot_at l k

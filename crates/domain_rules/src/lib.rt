@@ -1,10 +1,11 @@
 // The rules of a memory domain, and the function that judges a record by them. The domain leaf takes any record literally; what plans, checks and
-// stores domains answers VALUE by this. Promised: `is_sound` says true exactly when the rules hold (docs/SPEC.md, 3.33). The tests of one slot
-// and of two are public too, for the pass over a whole table of domains, which copies no domain.
+// stores domains answers VALUE by this. Promised: `is_sound` says true exactly when the rules hold (docs/SPEC.md, 3.33). The slots' own
+// rules (3.32) are judged as a closure gives the slots, so that a record and a whole table of domains go through the same functions, and none is copied.
 #![tactic(auto)]
 
-ghost use Rattle.std.specs.Prelude.{◌≡◌, ◌<◌};
-ghost use Rattle.domain_rules.specs.Sound.{attr_ok, slot_ok, apart_of, apart_to, slot_sound, slots_sound, domain_sound};
+ghost use Rattle.std.specs.Prelude.{◌≡◌, ◌<◌, ◌≤◌, List};
+ghost use Rattle.domain_rules.specs.Sound.{attr_ok, slot_ok, apart_of, clear_of, slot_sound, slots_sound, domain_sound, Serves, Gives};
+ghost use Rattle.mem_partition.specs.declared.MemPartition.{MemPartition as MemPartition·spec};
 
 use mem_domain::MemDomain;
 use mem_partition::MemPartition;
@@ -15,13 +16,7 @@ const SLOTS: usize = mem_domain::MAX_PARTITIONS as usize;
 pub fn attr_ok(attr: u32) -> bool
     ensures { result ≡ attr_ok attr }
 {
-    match attr {
-        1 => true,
-        3 => true,
-        5 => true,
-        7 => true,
-        _ => false,
-    }
+    matches!(attr, 1 | 3 | 5 | 7)
 }
 
 // One slot by itself: a free one is all zero, an active one is valid with an allowed attr.
@@ -29,70 +24,58 @@ pub fn slot_ok(p: MemPartition) -> bool
     ensures { result ≡ slot_ok p }
 {
     if p.size == 0 {
-        if p.start == 0 {
-            return p.attr == 0;
-        }
-        return false;
+        return p.start == 0 && p.attr == 0;
     }
-    if p.is_valid() {
-        return attr_ok(p.attr);
-    }
-    false // no window of addresses
+    p.is_valid() && attr_ok(p.attr)
 }
 
 // Two slots: they are not both active and overlapping.
 pub fn is_apart(p: MemPartition, q: MemPartition) -> bool
     ensures { result ≡ apart_of p q }
 {
-    if p.size == 0 {
-        return true;
-    }
-    if q.size == 0 {
+    if p.size == 0 || q.size == 0 {
         return true;
     }
     !p.overlaps(q)
 }
 
-// Whether slot k overlaps none before it.
-fn is_clear(domain: MemDomain, k: usize) -> bool
-    requires { k < 16 }
-    ensures { result ≡ apart_to domain.partitions k k }
+// Whether q overlaps none of the first k slots that a closure gives.
+fn is_clear<F: Fn(usize) -> MemPartition>(slot: &F, k: usize, q: MemPartition) -> bool
+    requires serves { Serves (F.pre slot.now) }
+    requires within { k ≤ 16 }
+    ensures { (l : List MemPartition·spec) → Gives (F.post slot.now) l → result ≡ clear_of l q k }
 {
-    let q = domain.partitions[k];
-    let mut j = 0;
-    while j < k {
-        let p = domain.partitions[j];
-        if is_apart(p, q) {
-            j += 1;
-        } else {
+    for j in 0..k {
+        if !is_apart(slot(j), q) {
             return false;
         }
     }
     true
 }
 
-fn slot_sound(domain: MemDomain, k: usize) -> bool
-    requires { k < 16 }
-    ensures { result ≡ slot_sound domain.partitions k }
+// A free slot overlaps nothing: only pairs of active slots are looked at.
+fn slot_sound<F: Fn(usize) -> MemPartition>(slot: &F, k: usize) -> bool
+    requires serves { Serves (F.pre slot.now) }
+    requires within { k < 16 }
+    ensures { (l : List MemPartition·spec) → Gives (F.post slot.now) l → result ≡ slot_sound l k }
 {
-    let p = domain.partitions[k];
-    if slot_ok(p) {
-        if p.size == 0 {
-            return true;
-        }
-        return is_clear(domain, k);
+    let q = slot(k);
+    if !slot_ok(q) {
+        return false;
     }
-    false
+    if q.size == 0 {
+        return true;
+    }
+    is_clear(slot, k, q)
 }
 
-fn slots_sound(domain: MemDomain) -> bool
-    ensures { result ≡ slots_sound domain.partitions }
+// Whether the sixteen slots that a closure gives keep the rules, and no two of them overlap.
+pub fn slots_sound<F: Fn(usize) -> MemPartition>(slot: F) -> bool
+    requires { Serves (F.pre slot) }
+    ensures { (l : List MemPartition·spec) → Gives (F.post slot) l → result ≡ slots_sound l }
 {
-    let mut k = 0;
-    while k < SLOTS {
-        if slot_sound(domain, k) {
-            k += 1;
-        } else {
+    for k in 0..SLOTS {
+        if !slot_sound(&slot, k) {
             return false;
         }
     }
@@ -103,9 +86,6 @@ fn slots_sound(domain: MemDomain) -> bool
 pub fn is_sound(domain: MemDomain) -> bool
     ensures { result ≡ domain_sound domain }
 {
-    if slots_sound(domain) {
-        let right = domain.counted();
-        return domain.num_partitions == right.num_partitions;
-    }
-    false
+    slots_sound(|k| domain.partitions[k])
+        && domain.num_partitions == domain.counted().num_partitions
 }

@@ -2,37 +2,18 @@
 // Both are total, as the accessors of `tables` are: behind the table's end a load gives the all-zero record and a store does nothing.
 #![tactic(auto)]
 
-ghost use Rattle.std.specs.Prelude.{◌≡◌, get_or, set};
+ghost use Rattle.std.specs.Prelude.{◌≡◌};
 ghost use Rattle.tables.specs.Table.{object_at, put_object};
 
 use userspace::KernelObject;
 
-// Places are worked in 64 bits, as in `tables`.
-fn at64(xs: &[u64], i: u64) -> u64
-    ensures { result ≡ get_or xs.now i 0 }
-{
-    if i < xs.len() as u64 {
-        let k = i as usize;
-        return xs[k];
-    }
-    0
-}
-
-fn put64(xs: &mut [u64], i: u64, v: u64)
-    ensures { xs.new ≡ set xs.old i v }
-{
-    if i < xs.len() as u64 {
-        let k = i as usize;
-        xs[k] = v;
-    }
-}
-
+#[tactic(auto, unfolding(tables::specs::Table::object_at))]
 pub fn load_object(objects: &[u64], h: u32) -> KernelObject
     ensures { result ≡ object_at objects.now h }
 {
-    let i = 2 * (h as u64);
-    let head = at64(objects, i);
-    let word = at64(objects, i + 1);
+    let i = 2 * u64::from(h);
+    let head = tables::load(objects, i, 0);
+    let word = tables::load(objects, i + 1, 0);
     KernelObject {
         obj_type: (head % 256) as u8,
         flags: (head / 256 % 256) as u8,
@@ -40,10 +21,11 @@ pub fn load_object(objects: &[u64], h: u32) -> KernelObject
     }
 }
 
+#[tactic(auto, unfolding(tables::specs::Table::put_object))]
 pub fn store_object(objects: &mut [u64], h: u32, o: KernelObject)
     ensures { objects.new ≡ put_object objects.old h o }
 {
-    let i = 2 * (h as u64);
-    put64(objects, i, o.obj_type as u64 + 256 * (o.flags as u64));
-    put64(objects, i + 1, o.word);
+    let i = 2 * u64::from(h);
+    tables::store(objects, i, u64::from(o.obj_type) + 256 * u64::from(o.flags));
+    tables::store(objects, i + 1, o.word);
 }

@@ -73,6 +73,10 @@ at2 f xs i = f (get_or xs (2 * i) 0) (get_or xs (2 * i + 1) 0)
 abbrev pub at3 : {A : Type 0} → (ℕ → ℕ → ℕ → A) → List ℕ → ℕ → A
 at3 f xs i = f (get_or xs (3 * i) 0) (get_or xs (3 * i + 1) 0) (get_or xs (3 * i + 2) 0)
 
+-- three numbers, one behind the other
+abbrev pub row_of : ℕ → ℕ → ℕ → List ℕ
+row_of a b c = a ∷ b ∷ c ∷ []
+
 -- records at different places are apart
 pub apart_2 : (i j : ℕ) → i ≢ j → Apart (2 * i) 2 (2 * j) 2
 apart_2 i j ne = go (dec_lt i j)

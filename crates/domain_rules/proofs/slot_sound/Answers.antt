@@ -1,18 +1,22 @@
-use mathlib.Core.Path.{sym}
+use Rattle.std.proofs.Common.{sym, ap, ◌∙◌}
 use Rattle.answer.specs.Tests.{via}
-use Rattle.domain_rules.specs.Sound.{slot_sound}
-use Rattle.domain_rules.proofs.Sound.{free_clear}
 use Rattle.mem_domain.specs.Domain.{slot_at}
+use Rattle.domain_rules.specs.Sound.{slot_ok, slot_sound}
+use Rattle.domain_rules.proofs.Sound.{free_clear}
 use Rattle.domain_rules.proofs.slot_sound.Goals as goal
 
-pub returns-then-p-eq0 : goal.returns-then-p-eq0
+pub returns-then-not-slot_ok : goal.returns-then-not-slot_ok
 unfolding slot_sound
-returns-then-p-eq0 c = rw (via c.slot_ok.ensures c.if-slot_ok.true) (sym (free_clear (slot_at c.args.domain.partitions) _ _ c.if-p-eq0.true))
+returns-then-not-slot_ok g c = λ s h. rw (ap slot_ok (sym (h _ _ c.requires.within c.slot-q.ensures)) ∙ via c.slot_ok.ensures c.if-not-slot_ok.true)
 
-pub returns-then-slot_ok : goal.returns-then-slot_ok
+pub returns-then-q-eq0 : goal.returns-then-q-eq0
 unfolding slot_sound
-returns-then-slot_ok c = rw (via c.slot_ok.ensures c.if-slot_ok.true) c.is_clear.ensures
+returns-then-q-eq0 g c = λ s h.
+    let e = h _ _ c.requires.within c.slot-q.ensures in
+    rw (ap slot_ok (sym e) ∙ via c.slot_ok.ensures c.if-not-slot_ok.false, ← e) (sym (free_clear (slot_at s) _ c.args.k c.if-q-eq0.true))
 
 pub returns : goal.returns
 unfolding slot_sound
-returns c = rw (via c.slot_ok.ensures c.if-slot_ok.false)
+returns g c = λ s h.
+    let e = h _ _ c.requires.within c.slot-q.ensures in
+    rw (ap slot_ok (sym e) ∙ via c.slot_ok.ensures c.if-not-slot_ok.false, ← e) (c.is_clear.ensures s h)

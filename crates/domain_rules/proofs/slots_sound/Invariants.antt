@@ -1,12 +1,8 @@
-use Prim.Native.Nat.{◌≤◌, ◌-◌}
-use mathlib.Core.Bool.{true}
-use mathlib.Core.Path.{◌≡◌}
+use Rattle.std.proofs.Common.{◌≡◌, List, true}
+use Rattle.mem_partition.specs.declared.MemPartition.{MemPartition}
 use Rattle.domain_rules.specs.Scan.{all_to}
-use Rattle.domain_rules.specs.Sound.{slot_sound}
+use Rattle.domain_rules.specs.Sound.{slot_sound, Gives}
 use Rattle.domain_rules.proofs.slots_sound.Given as goal
 
 abbrev pub invariant-loop-k : goal.invariant-loop-k
-invariant-loop-k l = (l.k ≤ 16) × (all_to (slot_sound l.domain.partitions) l.k ≡ true)
-
-abbrev pub decreases-loop-k : goal.decreases-loop-k
-decreases-loop-k l = 16 - l.k
+invariant-loop-k g l = (s : List MemPartition) → Gives (goal.F-post g l.slot) s → all_to (slot_sound s) l.k ≡ true
