@@ -1,6 +1,5 @@
 -- Two results that meet a function's own contract are equal: the contract fixes the answer.
 use mathlib.Core.Path.{◌≡◌, sym, ◌∙◌}
-use mathlib.Core.Bool.{Bool}
 use Rattle.answer.specs.declared.Answer.{Answer}
 use Rattle.mpu.proofs.check.Reads as check
 

@@ -1,12 +1,6 @@
 use Rattle.answer.specs.Tests.{via}
-use borrow.Author.Tests.{not-true, not-false}
 use Rattle.mpu.proofs.Plan.{edges_same}
 use Rattle.mpu.specs.Mpu.{checked}
-use borrow.Author.Rules.{rules}
-use Rattle.mpu.proofs.edges_agree.Reads as edges-agree-reads
-use Rattle.domain_rules.proofs.is_sound.Reads as is-sound-reads
-use Rattle.mpu.proofs.plain.Reads as plain-reads
-use Rattle.mpu.proofs.plan_ok.Reads as plan-ok-reads
 use Rattle.mpu.proofs.check.Goals as goal
 
 pub returns-then-not-is_sound : goal.returns-then-not-is_sound

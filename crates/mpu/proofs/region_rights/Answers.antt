@@ -1,7 +1,5 @@
 use Rattle.mpu.specs.Mpu.{region_rights}
 use borrow.Author.Rules.{rules}
-use Rattle.mpu.proofs.ap_rights.Reads as ap-rights-reads
-use Rattle.mpu.proofs.with_execute.Reads as with-execute-reads
 use Rattle.mpu.proofs.region_rights.Goals as goal
 
 pub returns : goal.returns

@@ -1,6 +1,5 @@
 use Rattle.answer.specs.Tests.{tests}
 use Rattle.mpu.specs.Mpu.{with_execute}
-use borrow.Author.Rules.{rules}
 use Rattle.mpu.proofs.with_execute.Goals as goal
 
 pub returns-then-rights-eq0 : goal.returns-then-rights-eq0
