@@ -7,11 +7,10 @@ ghost use Rattle.std.specs.Prelude.{◌≡◌, not, ◌&&◌, ◌+◌, ◌/◌, 
 ghost use Rattle.mem_partition.specs.Partition.{is_active, holds};
 ghost use Rattle.mem_domain.specs.Domain.{active_count};
 ghost use Rattle.domain_rules.specs.Sound.{domain_sound};
-ghost use Rattle.answer.specs.Answer.{plain as plain·spec};
-ghost use Rattle.mpu.specs.Mpu.{base_of, size_of, within, ap_rights, with_execute, region_rights, region_holds, place_ok, reserved_ok, region_ok, rbar_at, rasr_at, regions_of, plan_ok, rights_of_plan, rights_of_domain, checked};
+ghost use Rattle.mpu.specs.Mpu.{base_of, size_of, within, ap_rights, with_execute, region_rights, region_holds, place_ok, reserved_ok, region_ok, rbar_at, rasr_at, regions_of, plan_ok, rights_of_plan, rights_of_domain, verdict};
 ghost use Rattle.mpu.specs.Edges.{edge_agrees, ends_agree, slots_to, regions_to, edges_agree};
 
-use answer::Answer;
+use answer::Code;
 use mem_domain::MemDomain;
 use mem_partition::MemPartition;
 
@@ -20,6 +19,7 @@ const MAX_WORDS: usize = 32;
 // The first number that is no address.
 const ADDRESSES: u64 = 4294967296;
 
+#[tactic(auto, unfolding(crate::specs::Mpu::base_of))]
 fn base_of(rbar: u32) -> u64
     ensures { (result ≡ base_of rbar) × (result < 2 ^ 32) }
 {
@@ -46,6 +46,7 @@ fn region_holds(rbar: u32, rasr: u32, a: u64) -> bool
     rasr % 2 == 1 && is_within(base_of(rbar), size_of(rasr), a)
 }
 
+#[tactic(auto, unfolding(crate::specs::Mpu::ap_rights))]
 fn ap_rights(ap: u32) -> u32
     ensures { (result ≡ ap_rights ap) × (result ≤ 3) }
 {
@@ -59,19 +60,21 @@ fn ap_rights(ap: u32) -> u32
     }
 }
 
+#[tactic(auto, unfolding(crate::specs::Mpu::with_execute))]
 fn with_execute(rights: u32, xn: u32) -> u32
     requires { rights ≤ 3 }
     ensures { result ≡ with_execute rights xn }
 {
     if rights == 0 {
-        return 0;
+        0
+    } else if xn == 0 {
+        rights + 4
+    } else {
+        rights
     }
-    if xn == 0 {
-        return rights + 4;
-    }
-    rights
 }
 
+#[tactic(auto, unfolding(crate::specs::Mpu::region_rights))]
 fn region_rights(rasr: u32) -> u32
     ensures { result ≡ region_rights rasr }
 {
@@ -216,24 +219,16 @@ fn plan_ok(plan: &[u32]) -> bool
     true
 }
 
-fn plain(code: u32) -> Answer
-    ensures { result ≡ plain·spec code }
+// The checker: Ok exactly where the plan gives what the domain gives, at every address.
+#[tactic(auto, using(crate::proofs::Plan::edges_same), unfolding(crate::specs::Mpu::verdict))]
+pub fn check(domain: MemDomain, plan: &[u32]) -> Result<(), Code>
+    ensures { result ≡ verdict domain plan.now }
 {
-    Answer { code, value: 0 }
-}
-
-// The checker: OK exactly where the plan gives what the domain gives, at every address.
-pub fn check(domain: MemDomain, plan: &[u32]) -> Answer
-    ensures { result ≡ checked domain plan.now }
-{
-    if !domain_rules::is_sound(domain) {
-        return plain(answer::VALUE);
+    if !domain_rules::is_sound(domain) || !plan_ok(plan) {
+        Err(Code::Value)
+    } else if edges_agree(domain, plan) {
+        Ok(())
+    } else {
+        Err(Code::Differs)
     }
-    if !plan_ok(plan) {
-        return plain(answer::VALUE);
-    }
-    if edges_agree(domain, plan) {
-        return plain(answer::OK);
-    }
-    plain(answer::DIFFERS)
 }
