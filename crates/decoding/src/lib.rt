@@ -3,7 +3,7 @@
 #![tactic(auto)]
 
 ghost use Rattle.std.specs.Prelude.{◌≡◌, ◌+◌, ◌<◌, ◌≤◌, get_or, length};
-ghost use Rattle.decoding.specs.Calls.{word_at, call_of};
+ghost use Rattle.decoding.specs.Calls.{word_at, call_of, operation_of};
 
 // A call as its bytes have it.
 #[derive(Clone, Copy)]
@@ -16,59 +16,94 @@ pub struct Call {
     pub d: u32,
 }
 
-fn wide(x: u8) -> u32
-    ensures { (result ≡ x) × (result < 256) }
-{
-    x as u32
+// The eighteen operations, each with its number. A call holds any number: `operation_of` says which of these it names.
+#[derive(Clone, Copy, PartialEq, Eq)]
+pub enum Operation {
+    Validate = 0,
+    Grant = 1,
+    Release = 2,
+    Check = 3,
+    Exit = 4,
+    Create = 16,
+    Delete = 17,
+    Revoke = 18,
+    Init = 19,
+    Uninit = 20,
+    Recycle = 21,
+    MakePublic = 22,
+    CreateThread = 23,
+    End = 24,
+    Inherit = 25,
+    Assign = 26,
+    Add = 27,
+    Remove = 28,
 }
 
-fn byte_at(bytes: &[u8], i: usize) -> u32
-    ensures { (result ≡ get_or bytes.now i 0) × (result < 256) }
+// The operation that a number names; None where it is unknown.
+#[tactic(auto, unfolding(crate::specs::Calls::operation_of))]
+pub fn operation_of(number: u32) -> Option<Operation>
+    ensures { result ≡ operation_of number }
 {
-    if i < bytes.len() { wide(bytes[i]) } else { 0 }
+    match number {
+        0 => Some(Operation::Validate),
+        1 => Some(Operation::Grant),
+        2 => Some(Operation::Release),
+        3 => Some(Operation::Check),
+        4 => Some(Operation::Exit),
+        16 => Some(Operation::Create),
+        17 => Some(Operation::Delete),
+        18 => Some(Operation::Revoke),
+        19 => Some(Operation::Init),
+        20 => Some(Operation::Uninit),
+        21 => Some(Operation::Recycle),
+        22 => Some(Operation::MakePublic),
+        23 => Some(Operation::CreateThread),
+        24 => Some(Operation::End),
+        25 => Some(Operation::Inherit),
+        26 => Some(Operation::Assign),
+        27 => Some(Operation::Add),
+        28 => Some(Operation::Remove),
+        _ => None,
+    }
+}
+
+fn byte_at(bytes: &[u8], i: usize) -> u8
+    ensures { result ≡ get_or bytes.now i 0 }
+{
+    bytes.get(i).copied().unwrap_or(0)
 }
 
 fn word_at(bytes: &[u8], i: usize) -> u32
     requires { i ≤ 12 }
     ensures { result ≡ word_at bytes.now i }
 {
-    let low = byte_at(bytes, i) + byte_at(bytes, i + 1) * 256;
-    low + byte_at(bytes, i + 2) * 65536 + byte_at(bytes, i + 3) * 16777216
+    u32::from_le_bytes([
+        byte_at(bytes, i),
+        byte_at(bytes, i + 1),
+        byte_at(bytes, i + 2),
+        byte_at(bytes, i + 3),
+    ])
 }
 
 // The call of sixteen bytes, little-endian, byte by byte. Bytes that are not there read as 0; whoever has fewer than sixteen says SHORT before.
 pub fn decode_bytewise(bytes: &[u8]) -> Call
     ensures { result ≡ call_of bytes.now }
 {
-    let op = byte_at(bytes, 0);
-    let caller = byte_at(bytes, 1);
-    let a = byte_at(bytes, 2) + byte_at(bytes, 3) * 256;
-    let b = word_at(bytes, 4);
-    let c = word_at(bytes, 8);
-    let d = word_at(bytes, 12);
     Call {
-        op,
-        caller,
-        a,
-        b,
-        c,
-        d,
+        op: u32::from(byte_at(bytes, 0)),
+        caller: u32::from(byte_at(bytes, 1)),
+        a: u32::from(u16::from_le_bytes([byte_at(bytes, 2), byte_at(bytes, 3)])),
+        b: word_at(bytes, 4),
+        c: word_at(bytes, 8),
+        d: word_at(bytes, 12),
     }
 }
 
-fn byte(bytes: &[u8], i: usize) -> u32
-    requires { i < length bytes.now }
-    ensures { (result ≡ get_or bytes.now i 0) × (result < 256) }
-{
-    wide(bytes[i])
-}
-
-fn word(bytes: &[u8], i: usize) -> u32
-    requires { (i ≤ 12) × (i + 3 < length bytes.now) }
+fn word_in(bytes: &[u8; 16], i: usize) -> u32
+    requires { i ≤ 12 }
     ensures { result ≡ word_at bytes.now i }
 {
-    let low = byte(bytes, i) + byte(bytes, i + 1) * 256;
-    low + byte(bytes, i + 2) * 65536 + byte(bytes, i + 3) * 16777216
+    u32::from_le_bytes([bytes[i], bytes[i + 1], bytes[i + 2], bytes[i + 3]])
 }
 
 // The same for the loop over a log, which is fast: one test of the length before all reads, so that the compiler makes four loads of them. Called from one
@@ -76,21 +111,15 @@ fn word(bytes: &[u8], i: usize) -> u32
 pub fn decode(bytes: &[u8]) -> Call
     ensures { result ≡ call_of bytes.now }
 {
-    if bytes.len() < 16 {
+    let Some(whole) = bytes.first_chunk() else {
         return decode_bytewise(bytes);
-    }
-    let op = byte(bytes, 0);
-    let caller = byte(bytes, 1);
-    let a = byte(bytes, 2) + byte(bytes, 3) * 256;
-    let b = word(bytes, 4);
-    let c = word(bytes, 8);
-    let d = word(bytes, 12);
+    };
     Call {
-        op,
-        caller,
-        a,
-        b,
-        c,
-        d,
+        op: u32::from(whole[0]),
+        caller: u32::from(whole[1]),
+        a: u32::from(u16::from_le_bytes([whole[2], whole[3]])),
+        b: word_in(whole, 4),
+        c: word_in(whole, 8),
+        d: word_in(whole, 12),
     }
 }

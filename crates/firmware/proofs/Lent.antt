@@ -13,7 +13,9 @@ use Rattle.mem_domain.specs.declared.MemDomain.{MemDomain}
 use Rattle.mem_domain.specs.declared.Changed.{Changed}
 use Rattle.mem_domain.specs.declared.Got.{Got}
 use Rattle.tables.specs.Table.{put_domain}
-use Rattle.mpu.specs.Mpu.{checked}
+use Rattle.std.specs.Prelude.{Result}
+use Rattle.answer.specs.declared.Code.{Code}
+use Rattle.mpu.specs.Mpu.{verdict, as_answer, checked}
 use Rattle.planner.specs.Planner.{Planned}
 use Rattle.image.specs.Read.{ReadIs}
 use Rattle.firmware.specs.Lent.{whole, domain_in, judged, said, told, got_in, Changes, Plans, ReadsLeft}
@@ -41,9 +43,11 @@ module _ (ws : List ℕ) (is : length ws ≡ 48) where
       let q : Planned (domain_in ws) regions before after r = subst (λ (x : MemDomain). Planned x regions before after r) d p in
       record { answer = rw is_whole q.answer; words = rw is_whole q.words }
 
-  pub check_whole : (m : MemDomain) (plan : List ℕ) (r : Answer) → m ≡ domain_in ws → r ≡ checked m plan → r.code ≡ (judged ws (checked (domain_in ws) plan)).code
+  pub check_whole : (m : MemDomain) (plan : List ℕ) (r : Result (Unit {0}) Code) → m ≡ domain_in ws → r ≡ verdict m plan
+      → (as_answer r).code ≡ (judged ws (checked (domain_in ws) plan)).code
+  unfolding checked
   check_whole m plan r d e =
-      ap (λ (x : Answer). x.code) (e ∙ ap (λ (x : MemDomain). checked x plan) d ∙ judged_whole (checked (domain_in ws) plan))
+      ap (λ (x : Answer). x.code) (ap as_answer (e ∙ ap (λ (x : MemDomain). verdict x plan) d) ∙ judged_whole (checked (domain_in ws) plan))
 
   pub change_ok : (c : Changed) (ws' : List ℕ) → c.code ≡ 0 → ws' ≡ put_domain ws 0 c.domain → Changes ws c (told c) ws'
   unfolding judged

@@ -93,9 +93,16 @@ pub fn wardlatch_plan(domain: &[u32], regions: u32, out: &mut [u32], words: &mut
         *words = 0;
         return answer::VALUE;
     }
-    let made = planner::plan(tables::load_domain(domain, 0), regions, out);
-    *words = made.value;
-    made.code
+    match planner::plan(tables::load_domain(domain, 0), regions, out) {
+        Ok(count) => {
+            *words = count;
+            answer::OK
+        }
+        Err(refusal) => {
+            *words = 0;
+            answer::number(refusal)
+        }
+    }
 }
 
 // Checks any plan against a domain.
@@ -105,8 +112,10 @@ pub fn wardlatch_check(domain: &[u32], plan: &[u32]) -> u32
     if domain.len() != NUMBERS {
         return answer::VALUE;
     }
-    let checked = mpu::check(tables::load_domain(domain, 0), plan);
-    checked.code
+    match mpu::check(tables::load_domain(domain, 0), plan) {
+        Ok(()) => answer::OK,
+        Err(fault) => answer::number(fault),
+    }
 }
 
 // What add and remove answer is stored where it is OK; a refusal leaves the words alone.

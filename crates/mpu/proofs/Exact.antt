@@ -5,15 +5,16 @@ use mathlib.Core.List.{List, [], ◌∷◌}
 use mathlib.Core.Bool.{Bool, true, false, cond, not, ◌&&◌}
 use native.Mathlib.Omega.{arith}
 use borrow.Author.Tests.{eqb-true, eqb-false, eq-eqb, ne_eqb}
+use Rattle.std.specs.Prelude.{Result, Ok, Err}
 use Rattle.answer.specs.Answer.{refused, done}
 use Rattle.answer.specs.declared.Answer.{Answer}
 use Rattle.answer.specs.declared.Code.{Code}
-use Rattle.answer.specs.declared.Code.TheVariants.{Ok, Value, Differs}
+use Rattle.answer.specs.declared.Code.TheVariants.{Ok as Ok·code, Value, Differs}
 use Rattle.answer.specs.Given.{one_of, either}
 use Rattle.mem_partition.specs.declared.MemPartition.{MemPartition}
 use Rattle.mem_domain.specs.declared.MemDomain.{MemDomain}
 use Rattle.domain_rules.specs.Sound.{domain_sound}
-use Rattle.mpu.specs.Mpu.{plan_ok, rights_of_plan, rights_of_domain, agree_at, addresses, same_rights, checked}
+use Rattle.mpu.specs.Mpu.{plan_ok, rights_of_plan, rights_of_domain, agree_at, addresses, same_rights, verdict, as_answer, checked}
 use Rattle.domain_rules.proofs.All.{all_at, all_from, all_fails}
 use Rattle.mpu.proofs.Table.{all_false}
 
@@ -46,7 +47,7 @@ module _ (l : List MemPartition) (plan : List ℕ) where
 
 -- the three answers, by the two tests that lead to them
 abbrev pick : Bool → Bool → Answer
-pick v s = cond (not v) (refused Value) (cond s done (refused Differs))
+pick v s = as_answer (cond (not v) (Err Value) (cond s (Ok tt) (Err Differs)))
 
 other : {A : Type 0} (x y : Answer) → x ≡ y → (x.code ≡ y.code → ⊥) → A
 other x y e n = absurd (n (ap (λ (r : Answer). r.code) e))
@@ -73,37 +74,37 @@ module _ (d : MemDomain) (plan : List ℕ) where
 
   -- OK: exactly when both are well formed and rights are equal at every address
   pub ok_means : checked d plan ≡ done → (formed ≡ true) × Equal d.partitions plan
-  unfolding checked
+  unfolding checked verdict
   ok_means e = let w = pick_ok formed (same_rights d.partitions plan) e in (w.0, same_means _ plan w.1)
 
   pub ok_when : formed ≡ true → Equal d.partitions plan → checked d plan ≡ done
-  unfolding checked
+  unfolding checked verdict
   ok_when f e = rw (f, same_when d.partitions plan e)
 
   -- DIFFERS: exactly when both are well formed and there is an address where rights differ
   pub differs_means : checked d plan ≡ refused Differs → (formed ≡ true) × Differ d.partitions plan
-  unfolding checked
+  unfolding checked verdict
   differs_means e = let w = pick_differs formed (same_rights d.partitions plan) e in (w.0, differ_means _ plan w.1)
 
   pub differs_when : formed ≡ true → Differ d.partitions plan → checked d plan ≡ refused Differs
-  unfolding checked
+  unfolding checked verdict
   differs_when f w = rw (f, differ_when d.partitions plan w)
 
   -- VALUE: exactly when the record breaks a rule or the plan is ill-formed
   pub value_means : checked d plan ≡ refused Value → formed ≡ false
-  unfolding checked
+  unfolding checked verdict
   value_means e = pick_value formed (same_rights d.partitions plan) e
 
   pub value_when : formed ≡ false → checked d plan ≡ refused Value
-  unfolding checked
+  unfolding checked verdict
   value_when f = rw f
 
 -- which answers there are at all: OK, VALUE, DIFFERS
 abbrev pub check_codes : List Code
-check_codes = Ok ∷ Value ∷ Differs ∷ []
+check_codes = Ok·code ∷ Value ∷ Differs ∷ []
 
 pub check_given : (d : MemDomain) (plan : List ℕ) → one_of check_codes (checked d plan).code ≡ true
-unfolding checked one_of
+unfolding checked verdict one_of
 check_given d plan =
-    either (λ (a : Answer). a.code) check_codes (not (domain_sound d && plan_ok plan)) _ _ refl
-    (either (λ (a : Answer). a.code) check_codes (same_rights d.partitions plan) _ _ refl refl)
+    let code : Result (Unit {0}) Code → ℕ = λ r. (as_answer r).code in
+    either code check_codes (not (domain_sound d && plan_ok plan)) _ _ refl (either code check_codes (same_rights d.partitions plan) _ _ refl refl)

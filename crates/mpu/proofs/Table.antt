@@ -8,6 +8,7 @@ use native.Mathlib.Nat.{not-suc-le-zero, le_refl, eq-or-lt_of_le, le_of_suc-le-s
 use native.Mathlib.Omega.{arith}
 use Rattle.mpu.specs.Table.{last_of}
 use Rattle.domain_rules.specs.Scan.{all_to}
+use Rattle.domain_rules.proofs.All.{all_none, all_more, all_fails}
 
 -- the deciding entry gives the same where the same entries are on and give the same
 pub last_same : (f g : ℕ → Bool) (u v : ℕ → ℕ) (n : ℕ) → ((k : ℕ) → k < n → f k ≡ g k) → ((k : ℕ) → k < n → u k ≡ v k) → last_of f u n ≡ last_of g v n
@@ -94,12 +95,14 @@ pub one_false : (a b : Bool) → a && b ≡ false → (a ≡ false) ⊎ (b ≡ f
 one_false true b e = inr e
 one_false false b e = inl refl
 
--- a loop from the last of n entries down, at its turn j: the entry is on, or it is not
-pub last_here : (f : ℕ → Bool) (val : ℕ → ℕ) (n j : ℕ) → j < n → f (n - 1 - j) ≡ true → last_of f val (n - j) ≡ val (n - 1 - j)
-last_here f val n j h e = let s : n - j ≡ n - 1 - j + 1 = omega arith in rw s (last_on f val (n - 1 - j) e)
+-- a loop from the last entry down, at its turn k: the entry below is on, or it is not
+pub last_here : (f : ℕ → Bool) (val : ℕ → ℕ) (k : ℕ) → 0 < k → f (k - 1) ≡ true → last_of f val k ≡ val (k - 1)
+last_here f val k h e = let s : k - 1 + 1 ≡ k = omega arith in rw s at (last_on f val (k - 1) e)
 
-pub last_down : (f : ℕ → Bool) (val : ℕ → ℕ) (n j : ℕ) → j < n → f (n - 1 - j) ≡ false → last_of f val (n - j) ≡ last_of f val (n - (j + 1))
-last_down f val n j h e =
-    let s : n - j ≡ n - 1 - j + 1 = omega arith in
-    let t : n - (j + 1) ≡ n - 1 - j = omega arith in
-    rw (s, t) (last_off f val (n - 1 - j) e)
+pub last_down : (f : ℕ → Bool) (val : ℕ → ℕ) (k : ℕ) → 0 < k → f (k - 1) ≡ false → last_of f val k ≡ last_of f val (k - 1)
+last_down f val k h e = let s : k - 1 + 1 ≡ k = omega arith in rw s at (last_off f val (k - 1) e)
+
+-- for `search`: what a loop over a scan needs, and what one over a table needs
+pub ruleset scans = (all_none, all_more, all_fails)
+
+pub ruleset turns = (last_zero, last_on, last_off)

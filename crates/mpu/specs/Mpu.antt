@@ -1,8 +1,9 @@
 -- PMSAv7, docs/SPEC.md, 10.1 to 10.24: what a region's two words give unprivileged code, which plans are well formed, what a domain gives,
 -- and what the checker answers. Rights are a number in the coding of attr (SPEC 10.13).
-use Rattle.std.specs.Prelude.{ℕ, ◌+◌, ◌*◌, ◌/◌, ◌%◌, ◌^◌, ◌-◌, Bool, cond, not, ◌&&◌, ◌||◌, List, leb, ltb, eqb, length, get_or}
+use Rattle.std.specs.Prelude.{ℕ, ◌+◌, ◌*◌, ◌/◌, ◌%◌, ◌^◌, ◌-◌, Bool, cond, not, ◌&&◌, ◌||◌, List, leb, ltb, eqb, length, get_or, Result, Ok, Err}
 use Rattle.answer.specs.Answer.{refused, done}
 use Rattle.answer.specs.declared.Answer.{Answer}
+use Rattle.answer.specs.declared.Code.{Code}
 use Rattle.answer.specs.declared.Code.TheVariants.{Value, Differs}
 use Rattle.mem_domain.specs.Domain.{slots, slot_at, holds_at}
 use Rattle.mem_partition.specs.declared.MemPartition.{MemPartition}
@@ -118,8 +119,21 @@ unfoldable pub same_rights : List MemPartition → List ℕ → Bool
 same_rights l plan = all_to (agree_at l plan) addresses
 
 -- VALUE for a record that breaks a rule or an ill-formed plan; else OK for equal rights; else DIFFERS (SPEC 10.21 to 10.23)
+unfoldable pub verdict : MemDomain → List ℕ → Result (Unit {0}) Code
+verdict d plan =
+    cond (not (domain_sound d && plan_ok plan)) (Err Value) (
+    cond (same_rights d.partitions plan) (Ok tt) (
+    Err Differs))
+
+-- a Result as a number of the table and a value, as C gets it: OK with the value, a refusal with value 0
+abbrev pub answer_of : Result ℕ Code → Answer
+answer_of (Ok n) = record done { value = n }
+answer_of (Err e) = refused e
+
+-- the checker's as such
+abbrev pub as_answer : Result (Unit {0}) Code → Answer
+as_answer (Ok _) = done
+as_answer (Err e) = refused e
+
 unfoldable pub checked : MemDomain → List ℕ → Answer
-checked d plan =
-    cond (not (domain_sound d && plan_ok plan)) (refused Value) (
-    cond (same_rights d.partitions plan) done (
-    refused Differs))
+checked d plan = as_answer (verdict d plan)

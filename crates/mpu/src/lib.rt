@@ -7,31 +7,23 @@ ghost use Rattle.std.specs.Prelude.{◌≡◌, not, ◌&&◌, ◌+◌, ◌/◌, 
 ghost use Rattle.mem_partition.specs.Partition.{is_active, holds};
 ghost use Rattle.mem_domain.specs.Domain.{active_count};
 ghost use Rattle.domain_rules.specs.Sound.{domain_sound};
-ghost use Rattle.answer.specs.Answer.{plain as plain·spec};
-ghost use Rattle.mpu.specs.Mpu.{base_of, size_of, within, ap_rights, with_execute, region_rights, region_holds, place_ok, reserved_ok, region_ok, rbar_at, rasr_at, regions_of, plan_ok, rights_of_plan, rights_of_domain, checked};
+ghost use Rattle.mpu.specs.Mpu.{base_of, size_of, within, ap_rights, with_execute, region_rights, region_holds, place_ok, reserved_ok, region_ok, rbar_at, rasr_at, regions_of, plan_ok, rights_of_plan, rights_of_domain, verdict};
 ghost use Rattle.mpu.specs.Edges.{edge_agrees, ends_agree, slots_to, regions_to, edges_agree};
 
-use answer::Answer;
+use answer::Code;
 use mem_domain::MemDomain;
 use mem_partition::MemPartition;
-
-const SLOTS: usize = mem_domain::MAX_PARTITIONS as usize;
 
 const MAX_WORDS: usize = 32;
 
 // The first number that is no address.
 const ADDRESSES: u64 = 4294967296;
 
-fn wide(x: u32) -> u64
-    ensures { (result ≡ x) × (result < 2 ^ 32) }
-{
-    x as u64
-}
-
+#[tactic(auto, unfolding(crate::specs::Mpu::base_of))]
 fn base_of(rbar: u32) -> u64
     ensures { (result ≡ base_of rbar) × (result < 2 ^ 32) }
 {
-    (rbar / 32 * 32) as u64
+    u64::from(rbar / 32 * 32)
 }
 
 fn size_of(rasr: u32) -> u64
@@ -44,21 +36,17 @@ fn is_within(lo: u64, size: u64, a: u64) -> bool
     requires { (lo < 2 ^ 32) × (size ≤ 2 ^ 32) }
     ensures { result ≡ within lo (lo + size) a }
 {
-    if a < lo {
-        return false;
-    }
-    a < lo + size
+    lo <= a && a < lo + size
 }
 
+#[tactic(auto, unfolding(crate::specs::Mpu::region_holds))]
 fn region_holds(rbar: u32, rasr: u32, a: u64) -> bool
     ensures { result ≡ region_holds rbar rasr a }
 {
-    if rasr % 2 != 1 {
-        return false;
-    }
-    is_within(base_of(rbar), size_of(rasr), a)
+    rasr % 2 == 1 && is_within(base_of(rbar), size_of(rasr), a)
 }
 
+#[tactic(auto, unfolding(crate::specs::Mpu::ap_rights))]
 fn ap_rights(ap: u32) -> u32
     ensures { (result ≡ ap_rights ap) × (result ≤ 3) }
 {
@@ -72,19 +60,21 @@ fn ap_rights(ap: u32) -> u32
     }
 }
 
+#[tactic(auto, unfolding(crate::specs::Mpu::with_execute))]
 fn with_execute(rights: u32, xn: u32) -> u32
     requires { rights ≤ 3 }
     ensures { result ≡ with_execute rights xn }
 {
     if rights == 0 {
-        return 0;
+        0
+    } else if xn == 0 {
+        rights + 4
+    } else {
+        rights
     }
-    if xn == 0 {
-        return rights + 4;
-    }
-    rights
 }
 
+#[tactic(auto, unfolding(crate::specs::Mpu::region_rights))]
 fn region_rights(rasr: u32) -> u32
     ensures { result ≡ region_rights rasr }
 {
@@ -109,192 +99,136 @@ fn rasr_at(plan: &[u32], k: usize) -> u32
 fn plan_rights(plan: &[u32], a: u64) -> u32
     ensures { result ≡ rights_of_plan plan.now a }
 {
-    let n = plan.len() / 2;
-    let mut j = 0;
-    while j < n {
-        let k = n - 1 - j;
+    for k in (0..plan.len() / 2).rev() {
         let rasr = rasr_at(plan, k);
         if region_holds(rbar_at(plan, k), rasr, a) {
             return region_rights(rasr);
         }
-        j += 1;
     }
     0
 }
 
+#[tactic(auto, unfolding(mem_partition::specs::Partition::holds))]
 fn slot_holds(p: MemPartition, a: u64) -> bool
     ensures { result ≡ is_active p && holds p a }
 {
-    if p.size == 0 {
-        return false;
-    }
-    is_within(wide(p.start), wide(p.size), a)
+    p.size != 0 && is_within(u64::from(p.start), u64::from(p.size), a)
 }
 
+#[tactic(auto, using(crate::proofs::Table::turns), unfolding(crate::specs::Mpu::rights_of_domain))]
 fn domain_rights(domain: MemDomain, a: u64) -> u32
     ensures { result ≡ rights_of_domain domain.partitions a }
 {
-    let mut r = 0;
-    let mut k = 0;
-    while k < SLOTS {
-        let p = domain.partitions[k];
-        if slot_holds(p, a) {
-            r = p.attr;
+    let mut rights = 0;
+    for p in &domain.partitions {
+        if slot_holds(*p, a) {
+            rights = p.attr;
         }
-        k += 1;
     }
-    r
+    rights
 }
 
+#[tactic(auto, unfolding(crate::specs::Edges::edge_agrees, crate::specs::Mpu::agree_at))]
 fn edge_agrees(domain: MemDomain, plan: &[u32], e: u64) -> bool
     ensures { result ≡ edge_agrees domain.partitions plan.now e }
 {
-    if e >= ADDRESSES {
-        return true;
-    }
-    plan_rights(plan, e) == domain_rights(domain, e)
+    e >= ADDRESSES || plan_rights(plan, e) == domain_rights(domain, e)
 }
 
+#[tactic(auto, unfolding(crate::specs::Edges::ends_agree))]
 fn ends_agree(domain: MemDomain, plan: &[u32], lo: u64, size: u64) -> bool
     requires { (lo < 2 ^ 32) × (size ≤ 2 ^ 32) }
     ensures { result ≡ ends_agree domain.partitions plan.now lo size }
 {
-    if edge_agrees(domain, plan, lo) {
-        return edge_agrees(domain, plan, lo + size);
-    }
-    false
+    edge_agrees(domain, plan, lo) && edge_agrees(domain, plan, lo + size)
 }
 
+#[tactic(auto, using(crate::proofs::Table::scans))]
 fn slots_agree(domain: MemDomain, plan: &[u32]) -> bool
     ensures { result ≡ slots_to domain.partitions plan.now 16 }
 {
-    let mut k = 0;
-    while k < SLOTS {
-        let p = domain.partitions[k];
-        if ends_agree(domain, plan, wide(p.start), wide(p.size)) {
-            k += 1;
-        } else {
+    for p in &domain.partitions {
+        if !ends_agree(domain, plan, u64::from(p.start), u64::from(p.size)) {
             return false;
         }
     }
     true
 }
 
+#[tactic(auto, using(crate::proofs::Table::scans))]
 fn regions_agree(domain: MemDomain, plan: &[u32]) -> bool
     ensures { result ≡ regions_to domain.partitions plan.now (regions_of plan.now) }
 {
-    let n = plan.len() / 2;
-    let mut k = 0;
-    while k < n {
+    for k in 0..plan.len() / 2 {
         let base = base_of(rbar_at(plan, k));
         let size = size_of(rasr_at(plan, k));
-        if ends_agree(domain, plan, base, size) {
-            k += 1;
-        } else {
+        if !ends_agree(domain, plan, base, size) {
             return false;
         }
     }
     true
 }
 
+#[tactic(auto, unfolding(crate::specs::Edges::edges_agree))]
 fn edges_agree(domain: MemDomain, plan: &[u32]) -> bool
     ensures { result ≡ edges_agree domain.partitions plan.now }
 {
-    if edge_agrees(domain, plan, 0) {
-        if slots_agree(domain, plan) {
-            return regions_agree(domain, plan);
-        }
-        return false;
-    }
-    false
+    edge_agrees(domain, plan, 0) && slots_agree(domain, plan) && regions_agree(domain, plan)
 }
 
+#[tactic(auto, unfolding(crate::specs::Mpu::place_ok))]
 fn place_ok(rbar: u32, k: usize) -> bool
     requires { k < 16 }
     ensures { result ≡ place_ok rbar k }
 {
-    if (rbar >> 4) % 2 != 1 {
-        return false;
-    }
-    rbar % 16 == k as u32
+    (rbar >> 4) % 2 == 1 && rbar % 16 == k as u32
 }
 
+#[tactic(auto, unfolding(crate::specs::Mpu::reserved_ok))]
 fn reserved_ok(rasr: u32) -> bool
     ensures { result ≡ reserved_ok rasr }
 {
-    if (rasr >> 29) % 8 != 0 {
-        return false;
-    }
-    if (rasr >> 27) % 2 != 0 {
-        return false;
-    }
-    if (rasr >> 22) % 4 != 0 {
-        return false;
-    }
-    (rasr >> 6) % 4 == 0
+    (rasr >> 29) % 8 == 0 && (rasr >> 27) % 2 == 0 && (rasr >> 22) % 4 == 0 && (rasr >> 6) % 4 == 0
 }
 
+#[tactic(auto, unfolding(crate::specs::Mpu::region_ok))]
 fn region_ok(rbar: u32, rasr: u32, k: usize) -> bool
     requires { k < 16 }
     ensures { result ≡ region_ok rbar rasr k }
 {
-    if !place_ok(rbar, k) {
-        return false;
-    }
-    if !reserved_ok(rasr) {
-        return false;
-    }
-    if (rasr >> 8) % 256 != 0 {
-        return false;
-    }
-    if (rasr >> 24) % 8 == 4 {
-        return false;
-    }
-    if (rasr >> 1) % 32 < 4 {
-        return false;
-    }
-    base_of(rbar) % size_of(rasr) == 0
+    place_ok(rbar, k)
+        && reserved_ok(rasr)
+        && (rasr >> 8) % 256 == 0
+        && (rasr >> 24) % 8 != 4
+        && 4 <= (rasr >> 1) % 32
+        && base_of(rbar) % size_of(rasr) == 0
 }
 
+#[tactic(auto, using(crate::proofs::Table::scans), unfolding(crate::specs::Mpu::plan_ok))]
 fn plan_ok(plan: &[u32]) -> bool
     ensures { result ≡ plan_ok plan.now }
 {
-    if plan.len() % 2 != 0 {
+    if plan.len() % 2 != 0 || plan.len() > MAX_WORDS {
         return false;
     }
-    if plan.len() > MAX_WORDS {
-        return false;
-    }
-    let n = plan.len() / 2;
-    let mut k = 0;
-    while k < n {
-        if region_ok(rbar_at(plan, k), rasr_at(plan, k), k) {
-            k += 1;
-        } else {
+    for k in 0..plan.len() / 2 {
+        if !region_ok(rbar_at(plan, k), rasr_at(plan, k), k) {
             return false;
         }
     }
     true
 }
 
-fn plain(code: u32) -> Answer
-    ensures { result ≡ plain·spec code }
+// The checker: Ok exactly where the plan gives what the domain gives, at every address.
+#[tactic(auto, using(crate::proofs::Plan::edges_same), unfolding(crate::specs::Mpu::verdict))]
+pub fn check(domain: MemDomain, plan: &[u32]) -> Result<(), Code>
+    ensures { result ≡ verdict domain plan.now }
 {
-    Answer { code, value: 0 }
-}
-
-// The checker: OK exactly where the plan gives what the domain gives, at every address.
-pub fn check(domain: MemDomain, plan: &[u32]) -> Answer
-    ensures { result ≡ checked domain plan.now }
-{
-    if !domain_rules::is_sound(domain) {
-        return plain(answer::VALUE);
+    if !domain_rules::is_sound(domain) || !plan_ok(plan) {
+        Err(Code::Value)
+    } else if edges_agree(domain, plan) {
+        Ok(())
+    } else {
+        Err(Code::Differs)
     }
-    if !plan_ok(plan) {
-        return plain(answer::VALUE);
-    }
-    if edges_agree(domain, plan) {
-        return plain(answer::OK);
-    }
-    plain(answer::DIFFERS)
 }

@@ -1,60 +1,70 @@
 -- The planner's answers, one by one in their order, and what stands in the lent words after each.
-use Prim.Native.Nat.{ℕ, ◌+◌, ◌*◌, ◌<◌, ◌≤◌}
-use mathlib.Core.Path.{◌≡◌, sym, ◌∙◌}
+use Prim.Native.Nat.{ℕ, ◌*◌, ◌<◌, ◌≤◌}
+use mathlib.Core.Path.{◌≡◌, refl, sym, ap, ◌∙◌}
 use mathlib.Core.List.{List, ◌++◌}
 use mathlib.Core.Bool.{true, false}
 use borrow.Author.Tests.{lt-ltb, le-ltb}
 use lib.Dec.{eqb}
 use lib.ListN.{length, drop}
-use Rattle.answer.specs.Answer.{number_of, plain, refused}
-use Rattle.answer.specs.declared.Answer.{Answer}
-use Rattle.answer.specs.declared.Code.TheVariants.{Ok, Einval, Value, Noplan, Room}
+use Rattle.answer.specs.Answer.{number_of}
+use Rattle.answer.specs.declared.Code.{Code}
+use Rattle.answer.specs.declared.Code.TheVariants.{Einval, Value, Noplan, Room}
+use Rattle.std.specs.Prelude.{Result, Ok, Err}
 use Rattle.mem_domain.specs.Domain.{active_count}
 use Rattle.mem_domain.specs.declared.MemDomain.{MemDomain}
 use Rattle.domain_rules.specs.Sound.{domain_sound}
-use Rattle.planner.specs.Planner.{slots_fit, plan_of, word_count, planned, words_after, Planned}
+use Rattle.mpu.specs.Mpu.{answer_of}
+use Rattle.planner.specs.Planner.{slots_fit, plan_of, word_count, made, planned, words_after, Made, Planned}
 
 module _ (d : MemDomain) (regions room : ℕ) where
-  pub value : domain_sound d ≡ false → planned d regions room ≡ refused Value
-  unfolding planned
+  pub value : domain_sound d ≡ false → made d regions room ≡ Err Value
+  unfolding made
   value s = rw s
 
   module _ (s : domain_sound d ≡ true) where
-    pub einval : 16 < regions → planned d regions room ≡ refused Einval
-    unfolding planned
+    pub einval : 16 < regions → made d regions room ≡ Err Einval
+    unfolding made
     einval h = rw (s, lt-ltb 16 regions h)
 
     module _ (h : regions ≤ 16) where
-      pub unfit : slots_fit d.partitions ≡ false → planned d regions room ≡ refused Noplan
-      unfolding planned
+      pub unfit : slots_fit d.partitions ≡ false → made d regions room ≡ Err Noplan
+      unfolding made
       unfit f = rw (s, le-ltb 16 regions h, f)
 
-      pub few : slots_fit d.partitions ≡ true → regions < active_count d.partitions → planned d regions room ≡ refused Noplan
-      unfolding planned
+      pub few : slots_fit d.partitions ≡ true → regions < active_count d.partitions → made d regions room ≡ Err Noplan
+      unfolding made
       few f n = rw (s, le-ltb 16 regions h, f, lt-ltb regions (active_count d.partitions) n)
 
       pub short : slots_fit d.partitions ≡ true → active_count d.partitions ≤ regions → room < word_count d.partitions
-          → planned d regions room ≡ refused Room
-      unfolding planned
+          → made d regions room ≡ Err Room
+      unfolding made
       short f n r =
           rw (s, le-ltb 16 regions h, f, le-ltb regions (active_count d.partitions) n, lt-ltb room (word_count d.partitions) r)
 
       pub good : slots_fit d.partitions ≡ true → active_count d.partitions ≤ regions → word_count d.partitions ≤ room
-          → planned d regions room ≡ record { code = number_of Ok; value = word_count d.partitions }
-      unfolding planned
+          → made d regions room ≡ Ok (word_count d.partitions)
+      unfolding made
       good f n r =
           rw (s, le-ltb 16 regions h, f, le-ltb regions (active_count d.partitions) n, le-ltb room (word_count d.partitions) r)
 
+-- the number and the value of each
+pub answered : (d : MemDomain) (regions room : ℕ) (r : Result ℕ Code) → made d regions room ≡ r → planned d regions room ≡ answer_of r
+unfolding planned
+answered d regions room r e = ap answer_of e
+
+-- what is promised of the Result, said of the number and the value
+pub planned_by : (d : MemDomain) (regions : ℕ) (before after : List ℕ) (r : Result ℕ Code) → Made d regions before after r
+    → Planned d regions before after (answer_of r)
+planned_by d regions before after r m = record { answer = ap answer_of m.answer ∙ sym (answered d regions (length before) _ refl); words = m.words }
+
 module _ (d : MemDomain) (regions : ℕ) (out : List ℕ) where
   -- a refusal changes nothing
-  pub refuses : (code : ℕ) → eqb code 0 ≡ false → planned d regions (length out) ≡ plain code → (r : Answer) → r ≡ plain code
-      → Planned d regions out out r
+  pub refuses : (e : Code) → eqb (number_of e) 0 ≡ false → made d regions (length out) ≡ Err e → Made d regions out out (Err e)
   unfolding words_after
-  refuses code n e r q = record { answer = q ∙ sym e; words = rw (e, n) }
+  refuses e n m = record { answer = sym m; words = rw (answered d regions (length out) (Err e) m, n) }
 
   -- OK writes the plan
-  pub written : planned d regions (length out) ≡ record { code = number_of Ok; value = word_count d.partitions } → (n : ℕ)
-      → n ≡ active_count d.partitions → (after : List ℕ) → after ≡ plan_of d.partitions ++ drop (word_count d.partitions) out
-      → Planned d regions out after (record { code = number_of Ok; value = n * 2 })
+  pub written : made d regions (length out) ≡ Ok (word_count d.partitions) → (n : ℕ) → n ≡ active_count d.partitions → (after : List ℕ)
+      → after ≡ plan_of d.partitions ++ drop (word_count d.partitions) out → Made d regions out after (Ok (n * 2))
   unfolding words_after
-  written e n q after w = record { answer = rw q (sym e); words = rw e w }
+  written m n q after w = record { answer = rw q (sym m); words = rw (answered d regions (length out) _ m) w }

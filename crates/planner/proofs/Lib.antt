@@ -1,5 +1,6 @@
 pub mod Unique
 pub mod Bits
+pub mod Listed
 pub mod Filled
 pub mod Answers
 pub mod Right

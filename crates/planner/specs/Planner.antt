@@ -1,8 +1,9 @@
 -- The planner, docs/SPEC.md, 10.25 to 10.38: in the order of the slots each active one is a region.
-use Rattle.std.specs.Prelude.{ℕ, zero, suc, ◌+◌, ◌*◌, ◌/◌, ◌%◌, ◌^◌, ◌≡◌, List, [], ◌∷◌, ◌++◌, Bool, cond, not, ◌&&◌, ◌||◌, leb, ltb, eqb, length, drop, set}
-use Rattle.answer.specs.Answer.{number_of, refused}
+use Rattle.std.specs.Prelude.{ℕ, zero, suc, ◌+◌, ◌*◌, ◌/◌, ◌%◌, ◌^◌, ◌≡◌, List, [], ◌∷◌, ◌++◌, Bool, cond, not, ◌&&◌, ◌||◌, leb, ltb, eqb, length, drop, set, Result, Ok, Err}
+use Rattle.answer.specs.Answer.{number_of}
 use Rattle.answer.specs.declared.Answer.{Answer}
-use Rattle.answer.specs.declared.Code.TheVariants.{Ok, Einval, Value, Noplan, Room}
+use Rattle.answer.specs.declared.Code.{Code}
+use Rattle.answer.specs.declared.Code.TheVariants.{Ok as Ok·code, Einval, Value, Noplan, Room}
 use Rattle.mem_partition.specs.Partition.{is_free, is_active}
 use Rattle.mem_domain.specs.Domain.{slots, slot_at, active_to, active_count}
 use Rattle.mem_partition.specs.declared.MemPartition.{MemPartition}
@@ -10,7 +11,7 @@ use Rattle.mem_domain.specs.declared.MemDomain.{MemDomain}
 use Rattle.mpu.specs.Table.{last_of}
 use Rattle.domain_rules.specs.Scan.{all_to}
 use Rattle.domain_rules.specs.Sound.{domain_sound}
-use Rattle.mpu.specs.Mpu.{max_regions}
+use Rattle.mpu.specs.Mpu.{max_regions, answer_of}
 
 -- the SIZE whose region has that size, 2^(SIZE+1); 0 where no region has
 unfoldable pub field_for : ℕ → ℕ
@@ -76,21 +77,30 @@ plan_of l = words_to l slots
 abbrev pub word_count : List MemPartition → ℕ
 word_count l = active_count l * 2
 
--- VALUE; over 16 regions EINVAL; NOPLAN for a slot that is no region, or too few regions; ROOM; else OK (SPEC 10.26 to 10.31)
+-- VALUE; over 16 regions EINVAL; NOPLAN for a slot that is no region, or too few regions; ROOM; else OK with the number of words (SPEC 10.26 to 10.31)
+unfoldable pub made : MemDomain → ℕ → ℕ → Result ℕ Code
+made d regions room =
+    cond (not (domain_sound d)) (Err Value) (
+    cond (ltb max_regions regions) (Err Einval) (
+    cond (not (slots_fit d.partitions) || ltb regions (active_count d.partitions)) (Err Noplan) (
+    cond (ltb room (word_count d.partitions)) (Err Room) (
+    Ok (word_count d.partitions)))))
+
+-- the same as a number of the table and a value, as C gets it
 unfoldable pub planned : MemDomain → ℕ → ℕ → Answer
-planned d regions room =
-    cond (not (domain_sound d)) (refused Value) (
-    cond (ltb max_regions regions) (refused Einval) (
-    cond (not (slots_fit d.partitions) || ltb regions (active_count d.partitions)) (refused Noplan) (
-    cond (ltb room (word_count d.partitions)) (refused Room) (
-    record { code = number_of Ok; value = word_count d.partitions }))))
+planned d regions room = answer_of (made d regions room)
 
 -- the lent words afterwards: on OK the plan and then what lay behind it; a refusal leaves them (SPEC 10.35)
 unfoldable pub words_after : MemDomain → ℕ → List ℕ → List ℕ
 words_after d regions out =
-    cond (eqb (planned d regions (length out)).code (number_of Ok)) (plan_of d.partitions ++ drop (word_count d.partitions) out) out
+    cond (eqb (planned d regions (length out)).code (number_of Ok·code)) (plan_of d.partitions ++ drop (word_count d.partitions) out) out
 
 -- what the planner promises of its answer and of the lent words
+pub record Made (d : MemDomain) (regions : ℕ) (before after : List ℕ) (r : Result ℕ Code) : Type 0 where
+  pub answer : r ≡ made d regions (length before)
+  pub words : after ≡ words_after d regions before
+
+-- the same of the number and the value
 pub record Planned (d : MemDomain) (regions : ℕ) (before after : List ℕ) (r : Answer) : Type 0 where
   pub answer : r ≡ planned d regions (length before)
   pub words : after ≡ words_after d regions before

@@ -5,14 +5,11 @@
 
 ghost use Rattle.std.specs.Prelude.{◌≡◌, true, ◌++◌, ◌+◌, ◌*◌, ◌%◌, ◌^◌, ◌<◌, ◌≤◌, length, set, drop};
 ghost use Rattle.mem_partition.specs.Partition.{is_active};
-ghost use Rattle.answer.specs.Answer.{plain};
-ghost use Rattle.planner.specs.Planner.{field_for, is_region, rbar_for, xn_for, ap_for, rasr_for, slot_fits, slots_fit, next_region, put_slot, plan_of, word_count, Planned};
+ghost use Rattle.planner.specs.Planner.{field_for, is_region, rbar_for, xn_for, ap_for, rasr_for, slot_fits, slots_fit, next_region, put_slot, plan_of, word_count, Made};
 
-use answer::Answer;
+use answer::Code;
 use mem_domain::MemDomain;
 use mem_partition::MemPartition;
-
-const SLOTS: usize = mem_domain::MAX_PARTITIONS as usize;
 
 const MAX_REGIONS: u32 = 16;
 
@@ -34,50 +31,35 @@ const VALID: u32 = 16;
 fn size_field(size: u32) -> u32
     ensures { result ≡ field_for size }
 {
-    let n = u32::count_ones(size);
-    let t = u32::trailing_zeros(size);
-    if n != 1 {
-        return 0;
+    let zeros = size.trailing_zeros();
+    if size.count_ones() == 1 && zeros != 0 {
+        zeros - 1
+    } else {
+        0
     }
-    if t == 0 {
-        return 0;
-    }
-    t - 1
 }
 
+#[tactic(auto, unfolding(crate::specs::Planner::is_region))]
 fn is_region(p: MemPartition) -> bool
     ensures { result ≡ is_region p }
 {
-    if size_field(p.size) < 4 {
-        return false;
-    }
-    p.start % p.size == 0
+    4 <= size_field(p.size) && p.start % p.size == 0
 }
 
+#[tactic(auto, unfolding(crate::specs::Planner::slot_fits))]
 fn slot_fits(p: MemPartition) -> bool
     ensures { result ≡ slot_fits p }
 {
-    if p.size == 0 {
-        return true;
-    }
-    is_region(p)
+    p.size == 0 || is_region(p)
 }
 
 fn slots_fit(domain: MemDomain) -> bool
     ensures { result ≡ slots_fit domain.partitions }
 {
-    let mut k = 0;
-    while k < SLOTS {
-        let p = domain.partitions[k];
-        if slot_fits(p) {
-            k += 1;
-        } else {
-            return false;
-        }
-    }
-    true
+    domain.partitions.iter().all(|p| slot_fits(*p))
 }
 
+#[tactic(auto, unfolding(crate::specs::Planner::rbar_for))]
 fn rbar_for(start: u32, m: usize) -> u32
     requires { (start % 32 ≡ 0) × (m < 16) }
     ensures { result ≡ rbar_for start m }
@@ -85,24 +67,21 @@ fn rbar_for(start: u32, m: usize) -> u32
     start + VALID + m as u32
 }
 
+#[tactic(auto, unfolding(crate::specs::Planner::xn_for))]
 fn xn_for(attr: u32) -> u32
     ensures { (result ≡ xn_for attr) × (result ≤ 2 ^ 28) }
 {
-    if attr / 4 % 2 == 0 {
-        return XN;
-    }
-    0
+    if attr / 4 % 2 == 0 { XN } else { 0 }
 }
 
+#[tactic(auto, unfolding(crate::specs::Planner::ap_for))]
 fn ap_for(attr: u32) -> u32
     ensures { (result ≡ ap_for attr) × (result < 2 ^ 27) }
 {
-    if attr / 2 % 2 == 1 {
-        return AP_WRITE;
-    }
-    AP_READ
+    if attr / 2 % 2 == 1 { AP_WRITE } else { AP_READ }
 }
 
+#[tactic(auto, unfolding(crate::specs::Planner::rasr_for))]
 fn rasr_for(field: u32, attr: u32) -> u32
     requires { field < 32 }
     ensures { result ≡ rasr_for field attr }
@@ -137,44 +116,32 @@ fn fill(domain: MemDomain, out: &mut [u32])
     ensures { out.new ≡ plan_of domain.partitions ++ drop (word_count domain.partitions) out.old }
 {
     let mut m = 0;
-    let mut k = 0;
-    while k < SLOTS {
-        let p = domain.partitions[k];
-        m = fill_slot(p, m, out);
-        k += 1;
+    for p in &domain.partitions {
+        m = fill_slot(*p, m, out);
     }
 }
 
-fn refuse(code: u32) -> Answer
-    ensures { result ≡ plain code }
-{
-    Answer { code, value: 0 }
-}
-
 // The planner. The record's own count is its active slots, once it is sound.
-pub fn plan(domain: MemDomain, regions: u32, out: &mut [u32]) -> Answer
-    ensures { Planned domain regions out.old out.new result }
+pub fn plan(domain: MemDomain, regions: u32, out: &mut [u32]) -> Result<u32, Code>
+    ensures { Made domain regions out.old out.new result }
 {
     let n = domain.num_partitions;
     let words = n as usize * 2;
     if !domain_rules::is_sound(domain) {
-        return refuse(answer::VALUE);
+        return Err(Code::Value);
     }
     if regions > MAX_REGIONS {
-        return refuse(answer::EINVAL);
+        return Err(Code::Einval);
     }
     if !slots_fit(domain) {
-        return refuse(answer::NOPLAN);
+        return Err(Code::Noplan);
     }
     if n > regions {
-        return refuse(answer::NOPLAN);
+        return Err(Code::Noplan);
     }
     if words > out.len() {
-        return refuse(answer::ROOM);
+        return Err(Code::Room);
     }
     fill(domain, out);
-    Answer {
-        code: answer::OK,
-        value: n * 2,
-    }
+    Ok(n * 2)
 }

@@ -6,7 +6,7 @@
 ghost use Rattle.std.specs.Prelude.{◌<◌};
 ghost use Rattle.std.specs.Io.{ReadsAtMost};
 
-use answer::Answer;
+use answer::Code;
 use mem_domain::MemDomain;
 use mem_partition::MemPartition;
 use std::io;
@@ -19,12 +19,10 @@ const CASES: u32 = 1000000;
 
 fn main(rt: HostRuntime) -> io::Result<()> {
     let mut from = rt.stdin();
-    let mut left = CASES;
-    while left > 0 {
+    for _ in 0..CASES {
         if !one(&rt, &mut from)? {
             break;
         }
-        left -= 1;
     }
     Ok(())
 }
@@ -42,19 +40,16 @@ fn one(rt: &impl Print, from: &mut impl Read) -> io::Result<bool> {
     }
     let op = number(&case, 0);
     let n = number(&case, 8);
-    if op == 1 {
-        check(rt, domain(&case), words(&case), lent)?;
-        return Ok(true);
+    match op {
+        1 => check(rt, domain(&case), words(&case), lent)?,
+        2 => plan(rt, domain(&case), n, words(&case), lent)?,
+        _ => again(rt, domain(&case), words(&case), lent, n)?,
     }
-    if op == 2 {
-        plan(rt, domain(&case), n, words(&case), lent)?;
-        return Ok(true);
-    }
-    again(rt, domain(&case), words(&case), lent, n)?;
     Ok(true)
 }
 
-// Reads until `into` is full or the input ends, and answers how many bytes it put at its start.
+// Reads until `into` is full or the input ends, and answers how many bytes it put at its start. `read_exact` doesn't say where an input ended, and each
+// turn goes on by as many bytes as came: no `for` counts them.
 fn read_full(from: &mut impl Read, into: &mut [u8]) -> io::Result<usize>
     ensures { ReadsAtMost result into.new }
 {
@@ -73,7 +68,7 @@ fn check(rt: &impl Print, d: MemDomain, words: [u32; 34], lent: usize) -> io::Re
     requires { lent < 35 }
 {
     word(rt, "check ")?;
-    answered(rt, mpu::check(d, &words[..lent]))?;
+    answered(rt, mpu::check(d, &words[..lent]).map(|()| 0))?;
     word(rt, "\n")
 }
 
@@ -88,10 +83,8 @@ fn again(
     requires { lent < 35 }
 {
     let mut w = words;
-    let mut left = rounds;
-    while left > 0 {
+    for _ in 0..rounds {
         w[0] |= code_of(d, w, lent);
-        left -= 1;
     }
     word(rt, "again ")?;
     figure(rt, code_of(d, w, lent))?;
@@ -101,8 +94,10 @@ fn again(
 fn code_of(d: MemDomain, words: [u32; 34], lent: usize) -> u32
     requires { lent < 35 }
 {
-    let r = mpu::check(d, &words[..lent]);
-    r.code
+    match mpu::check(d, &words[..lent]) {
+        Ok(()) => answer::OK,
+        Err(code) => answer::number(code),
+    }
 }
 
 // The lent run is printed as it is afterwards, the words behind it too.
@@ -123,26 +118,30 @@ fn plan(
 }
 
 fn run(rt: &impl Print, out: &[u32; 34]) -> io::Result<()> {
-    let mut k = 0;
-    while k < 34 {
-        figure(rt, out[k])?;
-        k += 1;
+    for word in out {
+        figure(rt, *word)?;
     }
     Ok(())
 }
 
-fn answered(rt: &impl Print, r: Answer) -> io::Result<()> {
-    figure(rt, r.code)?;
-    figure(rt, r.value)
+fn answered(rt: &impl Print, r: Result<u32, Code>) -> io::Result<()> {
+    match r {
+        Ok(value) => {
+            figure(rt, answer::OK)?;
+            figure(rt, value)
+        }
+        Err(code) => {
+            figure(rt, answer::number(code))?;
+            figure(rt, 0)
+        }
+    }
 }
 
 fn domain(case: &[u8; 344]) -> MemDomain {
     let mut d = MemDomain::init();
     d.num_partitions = number(case, 12);
-    let mut k = 0;
-    while k < 16 {
-        d.partitions[k] = slot(case, 16 + k * 12);
-        k += 1;
+    for (k, p) in d.partitions.iter_mut().enumerate() {
+        *p = slot(case, 16 + k * 12);
     }
     d
 }
@@ -159,10 +158,8 @@ fn slot(case: &[u8; 344], at: usize) -> MemPartition
 
 fn words(case: &[u8; 344]) -> [u32; 34] {
     let mut w = [0u32; 34];
-    let mut k = 0;
-    while k < 34 {
-        w[k] = number(case, 208 + k * 4);
-        k += 1;
+    for (k, word) in w.iter_mut().enumerate() {
+        *word = number(case, 208 + k * 4);
     }
     w
 }
@@ -181,15 +178,5 @@ fn number(case: &[u8; 344], at: usize) -> u32 {
     if at > 340 {
         return 0;
     }
-    let b0 = wide(case[at]);
-    let b1 = wide(case[at + 1]);
-    let b2 = wide(case[at + 2]);
-    let b3 = wide(case[at + 3]);
-    b0 + b1 * 256 + b2 * 65536 + b3 * 16777216
-}
-
-fn wide(b: u8) -> u32
-    ensures { result < 256 }
-{
-    b as u32
+    u32::from_le_bytes([case[at], case[at + 1], case[at + 2], case[at + 3]])
 }

@@ -1,9 +1,8 @@
-use Prim.Native.Nat.{◌-◌, ◌/◌, ◌%◌, ◌<◌}
+use Prim.Native.Nat.{◌/◌, ◌%◌, ◌<◌}
 use mathlib.Core.Path.{refl}
 use native.Mathlib.Omega.{arith}
 use Rattle.mpu.specs.Mpu.{size_of}
 use Rattle.mpu.proofs.Words.{size_shift, size_le, size_gt}
-use borrow.Author.Rules.{rules}
 use Rattle.mpu.proofs.size_of.Goals as goal
 
 pub returns : goal.returns

@@ -1,12 +1,7 @@
 use mathlib.Core.Path.{refl, ◌∙◌}
-use Prim.Native.Nat.{◌-◌}
 use borrow.Author.Tests.{eq-eqb, ne_eqb}
 use Rattle.planner.proofs.Filled.{slot, by_32}
 use borrow.Author.Rules.{rules}
-use Rattle.planner.proofs.put_region.Reads as put-region-reads
-use Rattle.planner.proofs.rasr_for.Reads as rasr-for-reads
-use Rattle.planner.proofs.rbar_for.Reads as rbar-for-reads
-use Rattle.planner.proofs.size_field.Reads as size-field-reads
 use Rattle.planner.proofs.fill_slot.Goals as goal
 
 pub returns-then-p-eq0 : goal.returns-then-p-eq0
