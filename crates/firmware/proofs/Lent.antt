@@ -5,7 +5,7 @@ use mathlib.Core.Bool.{Bool, true, false}
 use mathlib.Core.List.{List}
 use lib.ListN.{length}
 use borrow.Author.Tests.{eq-eqb, ne_eqb}
-use Rattle.answer.specs.Answer.{number_of, refused}
+use Rattle.answer.specs.Answer.{number_of, refused, done_or}
 use Rattle.answer.specs.declared.Answer.{Answer}
 use Rattle.answer.specs.declared.Code.TheVariants.{Value}
 use Rattle.mem_domain.specs.Domain.{got_nothing, gotten}
@@ -15,7 +15,7 @@ use Rattle.mem_domain.specs.declared.Got.{Got}
 use Rattle.tables.specs.Table.{put_domain}
 use Rattle.std.specs.Prelude.{Result}
 use Rattle.answer.specs.declared.Code.{Code}
-use Rattle.mpu.specs.Mpu.{verdict, as_answer, checked}
+use Rattle.mpu.specs.Mpu.{verdict, checked}
 use Rattle.planner.specs.Planner.{Planned}
 use Rattle.image.specs.Read.{ReadIs}
 use Rattle.firmware.specs.Lent.{whole, domain_in, judged, said, told, got_in, Changes, Plans, ReadsLeft}
@@ -44,10 +44,10 @@ module _ (ws : List ℕ) (is : length ws ≡ 48) where
       record { answer = rw is_whole q.answer; words = rw is_whole q.words }
 
   pub check_whole : (m : MemDomain) (plan : List ℕ) (r : Result (Unit {0}) Code) → m ≡ domain_in ws → r ≡ verdict m plan
-      → (as_answer r).code ≡ (judged ws (checked (domain_in ws) plan)).code
+      → (done_or r).code ≡ (judged ws (checked (domain_in ws) plan)).code
   unfolding checked
   check_whole m plan r d e =
-      ap (λ (x : Answer). x.code) (ap as_answer (e ∙ ap (λ (x : MemDomain). verdict x plan) d) ∙ judged_whole (checked (domain_in ws) plan))
+      ap (λ (x : Answer). x.code) (ap done_or (e ∙ ap (λ (x : MemDomain). verdict x plan) d) ∙ judged_whole (checked (domain_in ws) plan))
 
   pub change_ok : (c : Changed) (ws' : List ℕ) → c.code ≡ 0 → ws' ≡ put_domain ws 0 c.domain → Changes ws c (told c) ws'
   unfolding judged

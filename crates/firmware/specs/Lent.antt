@@ -1,12 +1,12 @@
 -- What the exported functions promise where the function below has a result that C has not: a domain lent as words, a part of a slice (docs/SPEC.md, 12).
-use Rattle.std.specs.Prelude.{ℕ, ◌*◌, ◌≡◌, Bool, cond, List, [], eqb, length, drop}
-use Rattle.answer.specs.Answer.{number_of, refused}
+use Rattle.std.specs.Prelude.{ℕ, ◌*◌, ◌≡◌, Bool, cond, List, [], eqb, length, drop, Result, Ok as Accepted, Err}
+use Rattle.answer.specs.Answer.{number_of, refused, told}
 use Rattle.answer.specs.declared.Answer.{Answer}
+use Rattle.answer.specs.declared.Code.{Code}
 use Rattle.answer.specs.declared.Code.TheVariants.{Ok, Value}
-use Rattle.mem_domain.specs.Domain.{slots, got_nothing, gotten}
+use Rattle.mem_partition.specs.declared.MemPartition.{MemPartition}
+use Rattle.mem_domain.specs.Domain.{Changed, slots, gotten}
 use Rattle.mem_domain.specs.declared.MemDomain.{MemDomain}
-use Rattle.mem_domain.specs.declared.Changed.{Changed}
-use Rattle.mem_domain.specs.declared.Got.{Got}
 use Rattle.tables.specs.Table.{domain_at, put_domain}
 use Rattle.planner.specs.Planner.{planned, words_after}
 use Rattle.image.specs.Read.{read_code, after_read, total_of, ReadIs}
@@ -20,6 +20,10 @@ whole ws = eqb (length ws) (3 * slots)
 abbrev pub domain_in : List ℕ → MemDomain
 domain_in ws = domain_at ws 0
 
+-- that domain, or VALUE
+unfoldable pub lent : List ℕ → Result MemDomain Code
+lent ws = cond (whole ws) (Accepted (domain_in ws)) (Err Value)
+
 -- VALUE before all else
 unfoldable pub judged : List ℕ → Answer → Answer
 judged ws a = cond (whole ws) a (refused Value)
@@ -28,18 +32,28 @@ judged ws a = cond (whole ws) a (refused Value)
 abbrev pub said : Bool → Answer
 said b = record { code = number_of Ok; value = cond b 1 0 }
 
--- what add and remove answer
-abbrev pub told : Changed → Answer
-told c = record { code = c.code; value = c.value }
-
 -- add and remove: OK stores the domain, a refusal leaves the words (SPEC 12.3)
 pub record Changes (ws : List ℕ) (c : Changed) (r : Answer) (ws' : List ℕ) : Type 0 where
-  pub answer : r ≡ judged ws (told c)
-  pub words : ws' ≡ cond (eqb (judged ws (told c)).code (number_of Ok)) (put_domain ws 0 c.domain) ws
+  pub answer : r ≡ judged ws (told c.answer)
+  pub words : ws' ≡ cond (eqb (judged ws (told c.answer)).code (number_of Ok)) (put_domain ws 0 c.domain) ws
 
--- get
-unfoldable pub got_in : List ℕ → ℕ → Got
-got_in ws k = cond (whole ws) (gotten (domain_in ws) k) (got_nothing (number_of Value))
+-- get: the slot, or a refusal
+unfoldable pub slot_in : List ℕ → ℕ → Result MemPartition Code
+slot_in ws k = cond (whole ws) (gotten (domain_in ws) k) (Err Value)
+
+-- the same as a number of the table and the slot's three fields; a refusal's are zeros
+pub record Got : Type 0 where
+  pub code : ℕ
+  pub start : ℕ
+  pub size : ℕ
+  pub attr : ℕ
+
+abbrev pub got_of : Result MemPartition Code → Got
+got_of (Accepted p) = record { code = number_of Ok; start = p.start; size = p.size; attr = p.attr }
+got_of (Err c) = record { code = number_of c; start = 0; size = 0; attr = 0 }
+
+abbrev pub got_in : List ℕ → ℕ → Got
+got_in ws k = got_of (slot_in ws k)
 
 -- the planner's answer and words
 pub record Plans (ws : List ℕ) (regions : ℕ) (before : List ℕ) (r : Answer) (after : List ℕ) : Type 0 where

@@ -4,23 +4,21 @@
 #![tactic(auto)]
 
 ghost use Rattle.std.specs.Prelude.{◌≡◌};
-ghost use Rattle.answer.specs.Answer.{errno_of};
+ghost use Rattle.answer.specs.Answer.{code_in, errno_in, errno_of};
 ghost use Rattle.answer.specs.declared.Answer.{Answer};
-ghost use Rattle.answer.specs.declared.Errno.{Errno};
 ghost use Rattle.calls.specs.declared.Ran.{Ran};
 ghost use Rattle.calls.specs.Calls.{Called, Run};
 ghost use Rattle.image_write.specs.Encode.{Written};
 ghost use Rattle.mem_partition.specs.Partition.{window_of, is_valid, overlap_of};
 ghost use Rattle.mem_domain.specs.Domain.{added, removed, has_free, contains_addr};
-ghost use Rattle.mem_domain.specs.declared.Got.{Got};
 ghost use Rattle.tables.specs.Table.{partition_of};
 ghost use Rattle.mpu.specs.Mpu.{checked};
 ghost use Rattle.userspace_c.specs.Exported.{Grants, Revokes, Recycles, Queries, may_use, valid_code};
-ghost use Rattle.firmware.specs.Lent.{domain_in, judged, said, got_in, Changes, Plans, ReadsLeft};
+ghost use Rattle.firmware.specs.Lent.{domain_in, lent, judged, said, slot_in, got_in, Changes, Plans, ReadsLeft};
 
-use answer::Answer;
+use answer::{Answer, Code};
 use image_write::NUMBERS;
-use mem_domain::{Changed, Got};
+use mem_domain::MemDomain;
 use mem_partition::MemPartition;
 
 // One call; returns the answer's number.
@@ -85,52 +83,55 @@ pub fn wardlatch_write(
     w.code
 }
 
+// The domain that 48 words are; VALUE for another number of words.
+#[tactic(auto, unfolding(crate::specs::Lent::lent))]
+fn domain_of(words: &[u32]) -> Result<MemDomain, Code>
+    ensures { result ≡ lent words.now }
+{
+    if words.len() == NUMBERS {
+        Ok(tables::load_domain(words, 0))
+    } else {
+        Err(Code::Value)
+    }
+}
+
 // Plans a domain; in `words` how many words of `out` the plan has.
 pub fn wardlatch_plan(domain: &[u32], regions: u32, out: &mut [u32], words: &mut u32) -> u32
     ensures { Plans domain.now regions out.old (record { code = result; value = words.new }) out.new }
 {
-    if domain.len() != NUMBERS {
+    let Ok(record) = domain_of(domain) else {
         *words = 0;
         return answer::VALUE;
-    }
-    match planner::plan(tables::load_domain(domain, 0), regions, out) {
-        Ok(count) => {
-            *words = count;
-            answer::OK
-        }
-        Err(refusal) => {
-            *words = 0;
-            answer::number(refusal)
-        }
-    }
+    };
+    let made = Answer::from(planner::plan(record, regions, out));
+    *words = made.value;
+    made.code
 }
 
 // Checks any plan against a domain.
 pub fn wardlatch_check(domain: &[u32], plan: &[u32]) -> u32
     ensures { result ≡ (judged domain.now (checked (domain_in domain.now) plan.now)).code }
 {
-    if domain.len() != NUMBERS {
+    let Ok(record) = domain_of(domain) else {
         return answer::VALUE;
-    }
-    match mpu::check(tables::load_domain(domain, 0), plan) {
-        Ok(()) => answer::OK,
-        Err(fault) => answer::number(fault),
-    }
+    };
+    Answer::from(mpu::check(record, plan)).code
 }
 
 // What add and remove answer is stored where it is OK; a refusal leaves the words alone.
-fn settle(domain: &mut [u32], c: Changed, slot: &mut u32) -> u32
-    ensures { Changes domain.old c (record { code = result; value = slot.new }) domain.new }
+fn settle(domain: &mut [u32], answer: Result<u32, Code>, next: MemDomain, slot: &mut u32) -> u32
+    ensures { Changes domain.old (record { answer = answer; domain = next }) (record { code = result; value = slot.new }) domain.new }
 {
     if domain.len() != NUMBERS {
         *slot = 0;
         return answer::VALUE;
     }
-    *slot = c.value;
-    if c.code == answer::OK {
-        tables::store_domain(domain, 0, c.domain);
+    if answer.is_ok() {
+        tables::store_domain(domain, 0, next);
     }
-    c.code
+    let told = Answer::from(answer);
+    *slot = told.value;
+    told.code
 }
 
 pub fn wardlatch_domain_add(
@@ -142,32 +143,26 @@ pub fn wardlatch_domain_add(
 ) -> u32
     ensures { Changes domain.old (added (domain_in domain.old) (partition_of start size attr)) (record { code = result; value = slot.new }) domain.new }
 {
-    let window = MemPartition { start, size, attr };
-    let changed = tables::load_domain(domain, 0).add_partition(window);
-    settle(domain, changed, slot)
+    let mut next = tables::load_domain(domain, 0);
+    let answer = next.add_partition(MemPartition { start, size, attr });
+    settle(domain, answer, next, slot)
 }
 
 pub fn wardlatch_domain_remove(domain: &mut [u32], start: u32, size: u32, slot: &mut u32) -> u32
     ensures { Changes domain.old (removed (domain_in domain.old) start size) (record { code = result; value = slot.new }) domain.new }
 {
-    let changed = tables::load_domain(domain, 0).remove_partition(start, size);
-    settle(domain, changed, slot)
+    let mut next = tables::load_domain(domain, 0);
+    let answer = next.remove_partition(start, size);
+    settle(domain, answer, next, slot)
 }
 
-fn got_in(domain: &[u32], index: u32) -> Got
-    ensures { result ≡ got_in domain.now index }
+fn slot_of(domain: &[u32], index: u32) -> Result<MemPartition, Code>
+    ensures { result ≡ slot_in domain.now index }
 {
-    if domain.len() != NUMBERS {
-        return Got {
-            code: answer::VALUE,
-            start: 0,
-            size: 0,
-            attr: 0,
-        };
-    }
-    tables::load_domain(domain, 0).partition_get(index)
+    domain_of(domain)?.partition_get(index)
 }
 
+// A refusal's three fields are zeros.
 pub fn wardlatch_domain_get(
     domain: &[u32],
     index: u32,
@@ -177,49 +172,37 @@ pub fn wardlatch_domain_get(
 ) -> u32
     ensures { record { code = result; start = start.new; size = size.new; attr = attr.new } ≡ got_in domain.now index }
 {
-    let got = got_in(domain, index);
-    *start = got.start;
-    *size = got.size;
-    *attr = got.attr;
-    got.code
-}
-
-// A question about a domain is answered 1 or 0.
-fn say(domain: &[u32], yes: bool) -> Answer
-    ensures { result ≡ judged domain.now (said yes) }
-{
-    if domain.len() != NUMBERS {
-        return Answer {
-            code: answer::VALUE,
-            value: 0,
-        };
-    }
-    if yes {
-        return Answer {
-            code: answer::OK,
-            value: 1,
-        };
-    }
-    Answer {
-        code: answer::OK,
-        value: 0,
+    let got = slot_of(domain, index);
+    let window = got.unwrap_or_default();
+    *start = window.start;
+    *size = window.size;
+    *attr = window.attr;
+    match got {
+        Ok(_) => answer::OK,
+        Err(refusal) => answer::number(refusal),
     }
 }
 
 pub fn wardlatch_domain_has_free(domain: &[u32], value: &mut u32) -> u32
     ensures { record { code = result; value = value.new } ≡ judged domain.now (said (has_free (domain_in domain.now).partitions)) }
 {
-    let free = say(domain, tables::load_domain(domain, 0).has_free_slot());
-    *value = free.value;
-    free.code
+    let Ok(record) = domain_of(domain) else {
+        *value = 0;
+        return answer::VALUE;
+    };
+    *value = u32::from(record.has_free_slot());
+    answer::OK
 }
 
 pub fn wardlatch_domain_contains(domain: &[u32], addr: u32, value: &mut u32) -> u32
     ensures { record { code = result; value = value.new } ≡ judged domain.now (said (contains_addr (domain_in domain.now).partitions addr)) }
 {
-    let held = say(domain, tables::load_domain(domain, 0).contains_addr(addr));
-    *value = held.value;
-    held.code
+    let Ok(record) = domain_of(domain) else {
+        *value = 0;
+        return answer::VALUE;
+    };
+    *value = u32::from(record.contains_addr(addr));
+    answer::OK
 }
 
 pub fn wardlatch_partition_valid(start: u32, size: u32) -> bool
@@ -286,10 +269,12 @@ pub fn wardlatch_validate(
 
 // Upstream's number for an answer.
 pub fn wardlatch_to_errno(answer: u32, value: &mut i32) -> u32
-    ensures { record { code = result; value = value.new } ≡ errno_of answer }
+    ensures { (result ≡ code_in (errno_of answer)) × (value.new ≡ errno_in (errno_of answer)) }
 {
     let errno = answer::to_errno(answer);
-    let number = errno.value;
-    *value = number;
-    errno.code
+    *value = errno.unwrap_or(0);
+    match errno {
+        Ok(_) => answer::OK,
+        Err(refusal) => answer::number(refusal),
+    }
 }

@@ -4,7 +4,7 @@
 #![tactic(auto)]
 
 ghost use Rattle.std.specs.Prelude.{◌≡◌};
-ghost use Rattle.answer.specs.Answer.{errno_of};
+ghost use Rattle.answer.specs.Answer.{code_in, errno_in, errno_of};
 ghost use Rattle.calls.specs.Calls.{Called, Run};
 ghost use Rattle.image_write.specs.Encode.{Written};
 ghost use Rattle.mem_partition.specs.Partition.{window_of, is_valid, overlap_of};
@@ -209,7 +209,7 @@ pub extern "C" fn wardlatch_validate(
 
 #[unsafe(no_mangle)]
 pub extern "C" fn wardlatch_to_errno(answer: u32, value: &mut i32) -> u32
-    ensures { record { code = result; value = value.new } ≡ errno_of answer }
+    ensures { (result ≡ code_in (errno_of answer)) × (value.new ≡ errno_in (errno_of answer)) }
 {
     firmware::wardlatch_to_errno(answer, value)
 }

@@ -6,7 +6,7 @@ use mathlib.Core.Bool.{Bool, true, false, cond, not, ◌&&◌}
 use native.Mathlib.Omega.{arith}
 use borrow.Author.Tests.{eqb-true, eqb-false, eq-eqb, ne_eqb}
 use Rattle.std.specs.Prelude.{Result, Ok, Err}
-use Rattle.answer.specs.Answer.{refused, done}
+use Rattle.answer.specs.Answer.{refused, done, done_or}
 use Rattle.answer.specs.declared.Answer.{Answer}
 use Rattle.answer.specs.declared.Code.{Code}
 use Rattle.answer.specs.declared.Code.TheVariants.{Ok as Ok·code, Value, Differs}
@@ -14,7 +14,7 @@ use Rattle.answer.specs.Given.{one_of, either}
 use Rattle.mem_partition.specs.declared.MemPartition.{MemPartition}
 use Rattle.mem_domain.specs.declared.MemDomain.{MemDomain}
 use Rattle.domain_rules.specs.Sound.{domain_sound}
-use Rattle.mpu.specs.Mpu.{plan_ok, rights_of_plan, rights_of_domain, agree_at, addresses, same_rights, verdict, as_answer, checked}
+use Rattle.mpu.specs.Mpu.{plan_ok, rights_of_plan, rights_of_domain, agree_at, addresses, same_rights, verdict, checked}
 use Rattle.domain_rules.proofs.All.{all_at, all_from, all_fails}
 use Rattle.mpu.proofs.Table.{all_false}
 
@@ -47,7 +47,7 @@ module _ (l : List MemPartition) (plan : List ℕ) where
 
 -- the three answers, by the two tests that lead to them
 abbrev pick : Bool → Bool → Answer
-pick v s = as_answer (cond (not v) (Err Value) (cond s (Ok tt) (Err Differs)))
+pick v s = done_or (cond (not v) (Err Value) (cond s (Ok tt) (Err Differs)))
 
 other : {A : Type 0} (x y : Answer) → x ≡ y → (x.code ≡ y.code → ⊥) → A
 other x y e n = absurd (n (ap (λ (r : Answer). r.code) e))
@@ -106,5 +106,5 @@ check_codes = Ok·code ∷ Value ∷ Differs ∷ []
 pub check_given : (d : MemDomain) (plan : List ℕ) → one_of check_codes (checked d plan).code ≡ true
 unfolding checked verdict one_of
 check_given d plan =
-    let code : Result (Unit {0}) Code → ℕ = λ r. (as_answer r).code in
+    let code : Result (Unit {0}) Code → ℕ = λ r. (done_or r).code in
     either code check_codes (not (domain_sound d && plan_ok plan)) _ _ refl (either code check_codes (same_rights d.partitions plan) _ _ refl refl)

@@ -1,7 +1,7 @@
 -- PMSAv7, docs/SPEC.md, 10.1 to 10.24: what a region's two words give unprivileged code, which plans are well formed, what a domain gives,
 -- and what the checker answers. Rights are a number in the coding of attr (SPEC 10.13).
 use Rattle.std.specs.Prelude.{ℕ, ◌+◌, ◌*◌, ◌/◌, ◌%◌, ◌^◌, ◌-◌, Bool, cond, not, ◌&&◌, ◌||◌, List, leb, ltb, eqb, length, get_or, Result, Ok, Err}
-use Rattle.answer.specs.Answer.{refused, done}
+use Rattle.answer.specs.Answer.{done_or}
 use Rattle.answer.specs.declared.Answer.{Answer}
 use Rattle.answer.specs.declared.Code.{Code}
 use Rattle.answer.specs.declared.Code.TheVariants.{Value, Differs}
@@ -125,15 +125,6 @@ verdict d plan =
     cond (same_rights d.partitions plan) (Ok tt) (
     Err Differs))
 
--- a Result as a number of the table and a value, as C gets it: OK with the value, a refusal with value 0
-abbrev pub answer_of : Result ℕ Code → Answer
-answer_of (Ok n) = record done { value = n }
-answer_of (Err e) = refused e
-
--- the checker's as such
-abbrev pub as_answer : Result (Unit {0}) Code → Answer
-as_answer (Ok _) = done
-as_answer (Err e) = refused e
-
+-- the same as a number of the table and a value, as C gets it
 unfoldable pub checked : MemDomain → List ℕ → Answer
-checked d plan = as_answer (verdict d plan)
+checked d plan = done_or (verdict d plan)

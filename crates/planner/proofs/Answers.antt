@@ -6,14 +6,14 @@ use mathlib.Core.Bool.{true, false}
 use borrow.Author.Tests.{lt-ltb, le-ltb}
 use lib.Dec.{eqb}
 use lib.ListN.{length, drop}
-use Rattle.answer.specs.Answer.{number_of}
+use Rattle.answer.specs.Answer.{number_of, told}
 use Rattle.answer.specs.declared.Code.{Code}
 use Rattle.answer.specs.declared.Code.TheVariants.{Einval, Value, Noplan, Room}
 use Rattle.std.specs.Prelude.{Result, Ok, Err}
 use Rattle.mem_domain.specs.Domain.{active_count}
 use Rattle.mem_domain.specs.declared.MemDomain.{MemDomain}
 use Rattle.domain_rules.specs.Sound.{domain_sound}
-use Rattle.mpu.specs.Mpu.{answer_of}
+
 use Rattle.planner.specs.Planner.{slots_fit, plan_of, word_count, made, planned, words_after, Made, Planned}
 
 module _ (d : MemDomain) (regions room : ℕ) where
@@ -48,14 +48,14 @@ module _ (d : MemDomain) (regions room : ℕ) where
           rw (s, le-ltb 16 regions h, f, le-ltb regions (active_count d.partitions) n, le-ltb room (word_count d.partitions) r)
 
 -- the number and the value of each
-pub answered : (d : MemDomain) (regions room : ℕ) (r : Result ℕ Code) → made d regions room ≡ r → planned d regions room ≡ answer_of r
+pub answered : (d : MemDomain) (regions room : ℕ) (r : Result ℕ Code) → made d regions room ≡ r → planned d regions room ≡ told r
 unfolding planned
-answered d regions room r e = ap answer_of e
+answered d regions room r e = ap told e
 
 -- what is promised of the Result, said of the number and the value
 pub planned_by : (d : MemDomain) (regions : ℕ) (before after : List ℕ) (r : Result ℕ Code) → Made d regions before after r
-    → Planned d regions before after (answer_of r)
-planned_by d regions before after r m = record { answer = ap answer_of m.answer ∙ sym (answered d regions (length before) _ refl); words = m.words }
+    → Planned d regions before after (told r)
+planned_by d regions before after r m = record { answer = ap told m.answer ∙ sym (answered d regions (length before) _ refl); words = m.words }
 
 module _ (d : MemDomain) (regions : ℕ) (out : List ℕ) where
   -- a refusal changes nothing

@@ -10,7 +10,7 @@ use lib.Dec.{ltb}
 use Rattle.std.specs.Prelude.{Result, Ok, Err}
 use lib.ListN.{length, take, drop}
 use lib.Seq.{take_at}
-use Rattle.answer.specs.Answer.{number_of, refused, done}
+use Rattle.answer.specs.Answer.{number_of, refused, done, told}
 use Rattle.answer.specs.declared.Answer.{Answer}
 use Rattle.answer.specs.declared.Code.{Code}
 use Rattle.answer.specs.declared.Code.TheVariants.{Ok as Ok·code, Einval, Value, Noplan, Room}
@@ -20,7 +20,7 @@ use Rattle.mem_domain.specs.Domain.{slot_at, active_count}
 use Rattle.mem_partition.specs.declared.MemPartition.{MemPartition}
 use Rattle.mem_domain.specs.declared.MemDomain.{MemDomain}
 use Rattle.domain_rules.specs.Sound.{domain_sound}
-use Rattle.mpu.specs.Mpu.{max_regions, answer_of, checked}
+use Rattle.mpu.specs.Mpu.{max_regions, checked}
 use Rattle.domain_rules.proofs.All.{all_fails}
 use Rattle.mpu.proofs.Table.{all_false, both_false}
 use Rattle.planner.specs.Planner.{is_region, slot_fits, slots_fit, plan_of, word_count, made, planned, words_after, Planned}
@@ -32,7 +32,7 @@ use Rattle.planner.proofs.Right.{accepted}
 -- the answer, by the five tests that lead to it
 abbrev pick : Bool → Bool → Bool → Bool → Bool → ℕ → Answer
 pick v e f n r w =
-    answer_of (
+    told (
     cond (not v) (Err Value) (
     cond e (Err Einval) (
     cond (not f || n) (Err Noplan) (
@@ -150,7 +150,7 @@ plan_codes = Ok·code ∷ Value ∷ Einval ∷ Noplan ∷ Room ∷ []
 planned_given : (d : MemDomain) (regions room : ℕ) → one_of plan_codes (planned d regions room).code ≡ true
 unfolding planned made one_of
 planned_given d regions room =
-    let code : Result ℕ Code → ℕ = λ r. (answer_of r).code in
+    let code : Result ℕ Code → ℕ = λ r. (told r).code in
     either code plan_codes (not (domain_sound d)) _ _ refl
     (either code plan_codes (ltb max_regions regions) _ _ refl
     (either code plan_codes (not (slots_fit d.partitions) || ltb regions (active_count d.partitions)) _ _ refl

@@ -1,6 +1,6 @@
 -- The planner, docs/SPEC.md, 10.25 to 10.38: in the order of the slots each active one is a region.
 use Rattle.std.specs.Prelude.{ℕ, zero, suc, ◌+◌, ◌*◌, ◌/◌, ◌%◌, ◌^◌, ◌≡◌, List, [], ◌∷◌, ◌++◌, Bool, cond, not, ◌&&◌, ◌||◌, leb, ltb, eqb, length, drop, set, Result, Ok, Err}
-use Rattle.answer.specs.Answer.{number_of}
+use Rattle.answer.specs.Answer.{number_of, told}
 use Rattle.answer.specs.declared.Answer.{Answer}
 use Rattle.answer.specs.declared.Code.{Code}
 use Rattle.answer.specs.declared.Code.TheVariants.{Ok as Ok·code, Einval, Value, Noplan, Room}
@@ -11,7 +11,7 @@ use Rattle.mem_domain.specs.declared.MemDomain.{MemDomain}
 use Rattle.mpu.specs.Table.{last_of}
 use Rattle.domain_rules.specs.Scan.{all_to}
 use Rattle.domain_rules.specs.Sound.{domain_sound}
-use Rattle.mpu.specs.Mpu.{max_regions, answer_of}
+use Rattle.mpu.specs.Mpu.{max_regions}
 
 -- the SIZE whose region has that size, 2^(SIZE+1); 0 where no region has
 unfoldable pub field_for : ℕ → ℕ
@@ -88,7 +88,7 @@ made d regions room =
 
 -- the same as a number of the table and a value, as C gets it
 unfoldable pub planned : MemDomain → ℕ → ℕ → Answer
-planned d regions room = answer_of (made d regions room)
+planned d regions room = told (made d regions room)
 
 -- the lent words afterwards: on OK the plan and then what lay behind it; a refusal leaves them (SPEC 10.35)
 unfoldable pub words_after : MemDomain → ℕ → List ℕ → List ℕ
