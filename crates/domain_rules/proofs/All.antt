@@ -3,9 +3,10 @@ use Prim.Native.Nat.{ℕ, zero, suc, ◌+◌, ◌<◌}
 use native.Mathlib.Numerals.{add-one}
 use native.Mathlib.Nat.{not-suc-le-zero, le_refl, eq-or-lt_of_le, le_of_suc-le-suc}
 use native.Mathlib.Omega.{arith}
-use mathlib.Core.Path.{◌≡◌, refl, sym, ◌∙◌}
+use mathlib.Core.Path.{◌≡◌, refl, sym, ap, ◌∙◌}
 use mathlib.Core.Bool.{Bool, true, false, ◌&&◌, ◌||◌, true≢false}
 use mathlib.Core.Logic.{◌⊎◌, inl, inr, ⊎_elim}
+use Rattle.std.specs.List.{list_all, range_with_len}
 use Rattle.domain_rules.specs.Scan.{all_to}
 pub use Rattle.answer.specs.Tests.{both_true}
 
@@ -62,3 +63,27 @@ pub all_same : (f g : ℕ → Bool) (n : ℕ) → ((k : ℕ) → k < n → f k �
 unfolding all_to
 all_same f g zero e = refl
 all_same f g (suc n) e = rw (e n (le_refl _), all_same f g n (λ k h. e k (omega arith)))
+
+-- ---- a test of each number in a range, as `all` of an iterator makes it
+and_assoc : (a b c : Bool) → (a && b) && c ≡ a && (b && c)
+and_assoc true b c = refl
+and_assoc false b c = refl
+
+all_front : (f : ℕ → Bool) (n : ℕ) → all_to f (suc n) ≡ f 0 && all_to (λ k. f (suc k)) n
+unfolding all_to
+all_front f zero = and_true (f 0)
+  where
+    and_true : (b : Bool) → true && b ≡ b && true
+    and_true true = refl
+    and_true false = refl
+all_front f (suc n) = rw (all_front f n) (and_assoc (f 0) (all_to (λ k. f (suc k)) n) (f (suc n)))
+
+all_from_on : (f : ℕ → Bool) (a n : ℕ) → list_all f (range_with_len a n) ≡ all_to (λ k. f (a + k)) n
+unfolding all_to
+all_from_on f a zero = refl
+all_from_on f a (suc n) =
+    rw (all_from_on f (a + 1) n, all_front (λ k. f (a + k)) n)
+    (let e : a + 0 ≡ a = omega arith in rw e (ap (λ b. f a && b) (all_same (λ k. f (a + 1 + k)) (λ k. f (a + suc k)) n (λ k h. ap f (omega arith)))))
+
+pub all_range : (f : ℕ → Bool) (n : ℕ) → list_all f (range_with_len 0 n) ≡ all_to f n
+all_range f n = all_from_on f 0 n ∙ all_same (λ k. f (0 + k)) f n (λ k h. ap f (omega arith))

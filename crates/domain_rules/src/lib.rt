@@ -13,6 +13,7 @@ use mem_partition::MemPartition;
 const SLOTS: usize = mem_domain::MAX_PARTITIONS as usize;
 
 // The attributes that a partition may have. Public for the call that adds one.
+#[tactic(auto, unfolding(crate::specs::Sound::attr_ok))]
 pub fn attr_ok(attr: u32) -> bool
     ensures { result ≡ attr_ok attr }
 {
@@ -20,6 +21,7 @@ pub fn attr_ok(attr: u32) -> bool
 }
 
 // One slot by itself: a free one is all zero, an active one is valid with an allowed attr.
+#[tactic(auto, unfolding(crate::specs::Sound::slot_ok))]
 pub fn slot_ok(p: MemPartition) -> bool
     ensures { result ≡ slot_ok p }
 {
@@ -30,6 +32,7 @@ pub fn slot_ok(p: MemPartition) -> bool
 }
 
 // Two slots: they are not both active and overlapping.
+#[tactic(auto, unfolding(crate::specs::Sound::apart_of))]
 pub fn is_apart(p: MemPartition, q: MemPartition) -> bool
     ensures { result ≡ apart_of p q }
 {

@@ -7,6 +7,7 @@ use mathlib.Core.Logic.{◌≢◌}
 use mathlib.Core.Bool.{Bool, true, false, cond, not, ◌&&◌, ◌||◌}
 use mathlib.Core.List.{List}
 use lib.Dec.{eqb}
+use Rattle.std.proofs.Common.{Some, None}
 use lib.ListN.{length, get_or, set, length-set, replicate}
 use lib.Seq.{get_or-set_same, get_or-set_other}
 use borrow.Author.Tests.{eq-eqb, ne_eqb, not-true, not-false}
@@ -15,10 +16,9 @@ use Rattle.domain_rules.proofs.All.{both, all_step, all_fails, all_none, all_mor
 use Rattle.bits.specs.Bit.{bit_of, is_set, set_bit, set_same, set_other}
 use Rattle.userspace.specs.Userspace.{THREADS}
 use Rattle.tables.specs.declared.Thread.{Thread}
-use Rattle.rules.specs.declared.Judged.{Judged}
 use Rattle.tables.specs.Table.{HANDLES, thread_at}
 use Rattle.rules.proofs.Rules.{live_handle}
-use Rattle.rules.specs.Rules.{live_to, thread_ok, unserved, thread_sound, is_served, serving, failing, judged_threads}
+use Rattle.rules.specs.Rules.{live_to, thread_ok, unserved, thread_sound, is_served, serving, judged_threads}
 use Rattle.rules.proofs.Bits.{one_set, zero_unset, live_none, live_hit, live_miss}
 
 and_true_right : (b : Bool) → (b && true) ≡ b
@@ -141,28 +141,28 @@ module _ (os ts : List ℕ) where
         each h q g e (no r) =
             rw (step h, e, ne_eqb (thread_at ts t).handle h (λ w. r (sym w)), and_true_right (unserved ts h t)) (served_other served (thread_at ts t).handle h r g ∙ p.handles h q)
 
-    fails : thread_sound os ts t ≡ false → failing ≡ judged_threads os ts
+    fails : thread_sound os ts t ≡ false → None ≡ judged_threads os ts
     unfolding judged_threads
     fails e = rw (all_fails (thread_sound os ts) THREADS t l e)
 
-    pub pass_bad : thread_ok os (thread_at ts t) ≡ false → failing ≡ judged_threads os ts
+    pub pass_bad : thread_ok os (thread_at ts t) ≡ false → None ≡ judged_threads os ts
     pass_bad k = fails (unsound_bad k)
 
-    pub pass_twice : ((thread_at ts t).role ≡ 0 → ⊥) → (thread_at ts t).handle < HANDLES → is_served served (thread_at ts t).handle ≡ true → failing ≡ judged_threads os ts
+    pub pass_twice : ((thread_at ts t).role ≡ 0 → ⊥) → (thread_at ts t).handle < HANDLES → is_served served (thread_at ts t).handle ≡ true → None ≡ judged_threads os ts
     pass_twice z b s = fails (unsound_served z (not-true _ (sym (p.handles _ b) ∙ s)))
 
-  pub pass_all : (live : ℕ) (served : List ℕ) (t : ℕ) → Passing os ts live served t → THREADS ≤ t → record { ok = true; live = live } ≡ judged_threads os ts
+  pub pass_all : (live : ℕ) (served : List ℕ) (t : ℕ) → Passing os ts live served t → THREADS ≤ t → Some live ≡ judged_threads os ts
   unfolding judged_threads
   pass_all live served t p l =
       let e : t ≡ THREADS = omega (arith, p.within) in
-      rw (rw e at p.sound) (ap (λ x. record { ok = true; live = x }) (p.lives ∙ ap (live_to ts) e))
+      rw (rw e at p.sound) (ap (λ x. Some x) (p.lives ∙ ap (live_to ts) e))
 
 -- ---- the same as the code has it: the record that was loaded, and what the turn left behind
 module _ (os ts : List ℕ) {live : ℕ} {served : List ℕ} {t : ℕ} {r : Thread} (p : Passing os ts live served t) (l : t < THREADS) (e : r ≡ thread_at ts t) where
-  pub turn_bad : thread_ok os r ≡ false → failing ≡ judged_threads os ts
+  pub turn_bad : thread_ok os r ≡ false → None ≡ judged_threads os ts
   turn_bad k = pass_bad os ts live served t p l (rw (← e) k)
 
-  pub turn_twice : thread_ok os r ≡ true → (r.role ≡ 0 → ⊥) → is_served served r.handle ≡ true → failing ≡ judged_threads os ts
+  pub turn_twice : thread_ok os r ≡ true → (r.role ≡ 0 → ⊥) → is_served served r.handle ≡ true → None ≡ judged_threads os ts
   turn_twice k z s =
       pass_twice os ts live served t p l (λ q. z (ap (λ x. x.role) e ∙ q)) (rw e at (live_handle os r k z)) (rw e at s)
 
@@ -177,14 +177,18 @@ module _ (os ts : List ℕ) {live : ℕ} {served : List ℕ} {t : ℕ} {r : Thre
       (pass_live os ts live served t p l (rw (← e) k) (λ q. z (ap (λ x. x.role) e ∙ q)) (rw e at (live_handle os r k z)) (rw e at s))
 
 -- ---- what the pass's answer says
-judged_cases : (os ts : List ℕ) (b : Bool) → all_to (thread_sound os ts) THREADS ≡ b → (j : Judged) → j ≡ cond b (record { ok = true; live = live_to ts THREADS }) failing → j.ok ≡ b
-judged_cases os ts true e j q = ap (λ x. x.ok) q
-judged_cases os ts false e j q = ap (λ x. x.ok) q
-
-pub judged_ok : (os ts : List ℕ) (j : Judged) → j ≡ judged_threads os ts → all_to (thread_sound os ts) THREADS ≡ j.ok
+pub judged_none : (os ts : List ℕ) → None ≡ judged_threads os ts → all_to (thread_sound os ts) THREADS ≡ false
 unfolding judged_threads
-judged_ok os ts j e = sym (judged_cases os ts (all_to (thread_sound os ts) THREADS) refl j e)
+judged_none os ts e = go (all_to (thread_sound os ts) THREADS) e
+  where
+    go : (b : Bool) → None ≡ cond b (Some (live_to ts THREADS)) None → b ≡ false
+    go true q = absurd (cc)
+    go false q = refl
 
-pub judged_live : (os ts : List ℕ) (j : Judged) → j ≡ judged_threads os ts → j.ok ≡ true → j.live ≡ live_to ts THREADS
+pub judged_some : (os ts : List ℕ) (live : ℕ) → Some live ≡ judged_threads os ts → (all_to (thread_sound os ts) THREADS ≡ true) × (live ≡ live_to ts THREADS)
 unfolding judged_threads
-judged_live os ts j e k = ap (λ x. x.live) (rw (judged_ok os ts j e, k) at e)
+judged_some os ts live e = go (all_to (thread_sound os ts) THREADS) e
+  where
+    go : (b : Bool) → Some live ≡ cond b (Some (live_to ts THREADS)) None → (b ≡ true) × (live ≡ live_to ts THREADS)
+    go true q = (refl, cc)
+    go false q = absurd (cc)

@@ -1,16 +1,14 @@
 -- The rules of a state (docs/SPEC.md, 6), twice. `Keeps` has them in plain statements about records; `keeps_test` computes, on the tables of
 -- numbers themselves, of any length and any content. proofs/Rules.antt shows that they say the same.
-use Rattle.std.specs.Prelude.{ℕ, zero, suc, ◌+◌, ◌*◌, ◌/◌, ◌%◌, ◌≤◌, ◌<◌, ◌≡◌, ◌⊎◌, Bool, true, false, cond, not, ◌&&◌, ◌||◌, List, eqb, ltb, leb, length, get_or, set}
+use Rattle.std.specs.Prelude.{ℕ, zero, suc, ◌+◌, ◌*◌, ◌/◌, ◌%◌, ◌≤◌, ◌<◌, ◌≡◌, ◌⊎◌, Option, Some, None, Bool, true, false, cond, not, ◌&&◌, ◌||◌, List, eqb, ltb, leb, length, get_or, set}
 use Rattle.std.specs.Int.Bits.{bit_and}
 use Rattle.domain_rules.specs.Scan.{all_to}
 use Rattle.mem_domain.specs.Domain.{slots as SLOTS}
-use Rattle.domain_rules.specs.Sound.{SlotsKeep, slot_ok, apart_of, slots_sound}
-use Rattle.mem_partition.specs.declared.MemPartition.{MemPartition}
+use Rattle.domain_rules.specs.Sound.{SlotsKeep, slots_sound}
 use Rattle.bits.specs.Bit.{is_set, set_bit}
 use Rattle.userspace.specs.Userspace.{THREADS}
 use Rattle.tables.specs.declared.Thread.{Thread}
-use Rattle.rules.specs.declared.Judged.{Judged}
-use Rattle.tables.specs.Table.{HANDLES, DOMAINS, no_object, nobody, object_at, thread_at, partition_at, partitions_at}
+use Rattle.tables.specs.Table.{HANDLES, DOMAINS, no_object, nobody, object_at, thread_at, partitions_at}
 use Rattle.tables.specs.State.{State, state_of, object, thread, domain, Fit}
 
 -- a thread lives unless its role is 0; role 2 is a supervisor (SPEC 5.3)
@@ -99,17 +97,6 @@ is_served set256 h = is_set (get_or set256 (h / 64) 0) (h % 64)
 unfoldable pub serving : List ℕ → ℕ → List ℕ
 serving set256 h = set set256 (h / 64) (set_bit (get_or set256 (h / 64) 0) (h % 64))
 
--- partition q overlaps none of the n from first on
-abbrev pub clear_to : List ℕ → ℕ → MemPartition → ℕ → Bool
-clear_to ss first q = all_to (λ j. apart_of (partition_at ss (first + j)) q)
-
--- slot k of the domain whose partitions begin at first
-unfoldable pub slot_fine : List ℕ → ℕ → ℕ → Bool
-slot_fine ss first k = slot_ok (partition_at ss (first + k)) && clear_to ss first (partition_at ss (first + k)) k
-
--- what the pass over the threads finds: whether all keep their rules, and the mask of the live ones
-abbrev pub failing : Judged
-failing = record { ok = false; live = 0 }
-
-unfoldable pub judged_threads : List ℕ → List ℕ → Judged
-judged_threads os ts = cond (all_to (thread_sound os ts) THREADS) (record { ok = true; live = live_to ts THREADS }) failing
+-- what the pass over the threads finds: the mask of the live ones, or nothing where one breaks a rule
+unfoldable pub judged_threads : List ℕ → List ℕ → Option ℕ
+judged_threads os ts = cond (all_to (thread_sound os ts) THREADS) (Some (live_to ts THREADS)) None

@@ -19,14 +19,14 @@ is_served-requires c = live_handle _ _ (via c.thread_ok.ensures c.if-not-thread_
 pub returns-then-is_served : goal.returns-then-is_served
 returns-then-is_served c = turn_twice _ _ c.loop-t.invariant c.loop-t-test.true c.load_thread-r.ensures (via c.thread_ok.ensures c.if-not-thread_ok.false) c.if-r-ne0.true (via c.is_served.ensures c.if-is_served.true)
 
-pub with_served-next-requires : goal.with_served-next-requires
-with_served-next-requires c = live_handle _ _ (via c.thread_ok.ensures c.if-not-thread_ok.false) c.if-r-ne0.true
+pub serve-requires : goal.serve-requires
+serve-requires c = live_handle _ _ (via c.thread_ok.ensures c.if-not-thread_ok.false) c.if-r-ne0.true
 
 pub loop-t-preserved : goal.loop-t-preserved
 loop-t-preserved c =
     let k = via c.thread_ok.ensures c.if-not-thread_ok.false in
     elim c.if-r-ne0.branch [
-      | then-r-ne0+else-is_served w ↦ turn_live _ _ c.loop-t.invariant c.loop-t-test.true c.load_thread-r.ensures k w.if-r-ne0.true (via w.is_served.ensures w.if-is_served.false) (w.live-is ∙ code_set _ _ c.loop-t-test.true) (w.served-is ∙ w.with_served-next.ensures)
+      | then-r-ne0+else-is_served w ↦ turn_live _ _ c.loop-t.invariant c.loop-t-test.true c.load_thread-r.ensures k w.if-r-ne0.true (via w.is_served.ensures w.if-is_served.false) (w.live-is ∙ code_set _ _ c.loop-t-test.true) (w.served-is ∙ w.serve.ensures)
       | else-r-ne0 w ↦ turn_dead _ _ c.loop-t.invariant c.loop-t-test.true c.load_thread-r.ensures k w.if-r-ne0.false w.live-is w.served-is
     ]
 

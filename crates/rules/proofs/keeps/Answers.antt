@@ -1,30 +1,25 @@
-use mathlib.Core.Path.{◌∙◌}
-use borrow.Author.Tests.{eq-eqb, ne_eqb, not-true, not-false}
-use Rattle.answer.specs.Tests.{via}
-use Rattle.rules.specs.Rules.{keeps_test}
-use Rattle.rules.proofs.Pass.{judged_ok, judged_live}
+use Rattle.std.proofs.Common.{◌∙◌}
+use Rattle.rules.proofs.Ways.{other_objects, other_threads, other_slots, no_judged, judged}
 use Rattle.rules.proofs.keeps.Goals as goal
 
-pub returns-then-objects-ne-OBJECT_NUMBERS : goal.returns-then-objects-ne-OBJECT_NUMBERS
-unfolding keeps_test
-returns-then-objects-ne-OBJECT_NUMBERS c = rw (ne_eqb _ _ c.if-objects-ne-OBJECT_NUMBERS.true)
+pub returns-in_default : goal.returns-in_default
+returns-in_default c = other_objects _ _ _ c.in_default.ensures.cases
 
-pub returns-then-threads-ne-THREAD_NUMBERS : goal.returns-then-threads-ne-THREAD_NUMBERS
-unfolding keeps_test
-returns-then-threads-ne-THREAD_NUMBERS c = rw (eq-eqb _ _ c.if-objects-ne-OBJECT_NUMBERS.false, ne_eqb _ _ c.if-threads-ne-THREAD_NUMBERS.true)
+pub returns-in_default-as_array : goal.returns-in_default-as_array
+returns-in_default-as_array c = other_threads _ _ _ c.in-Some.ensures.cases c.in_default-as_array.ensures.cases
 
-pub returns-then-slots-ne-SLOT_NUMBERS : goal.returns-then-slots-ne-SLOT_NUMBERS
-unfolding keeps_test
-returns-then-slots-ne-SLOT_NUMBERS c = rw (eq-eqb _ _ c.if-objects-ne-OBJECT_NUMBERS.false, eq-eqb _ _ c.if-threads-ne-THREAD_NUMBERS.false, ne_eqb _ _ c.if-slots-ne-SLOT_NUMBERS.true)
+pub returns-in_default-as_array-2 : goal.returns-in_default-as_array-2
+returns-in_default-as_array-2 c = other_slots _ _ _ c.in-Some.ensures.cases c.in-Some-as_array.ensures.cases c.in_default-as_array-2.ensures.cases
 
-pub returns-then-not-j : goal.returns-then-not-j
-unfolding keeps_test
-returns-then-not-j c = rw (eq-eqb _ _ c.if-objects-ne-OBJECT_NUMBERS.false, eq-eqb _ _ c.if-threads-ne-THREAD_NUMBERS.false, eq-eqb _ _ c.if-slots-ne-SLOT_NUMBERS.false, judged_ok c.args.objects.now c.args.threads.now c.judge_threads-j.result c.judge_threads-j.ensures ∙ not-true _ c.if-not-j.true)
+pub returns-in_default-judge_threads : goal.returns-in_default-judge_threads
+returns-in_default-judge_threads c = no_judged _ _ _ c.in-Some.ensures.cases c.in-Some-as_array.ensures.cases c.in-Some-as_array-2.ensures.cases c.in_default-judge_threads.ensures
 
-pub returns-then-not-objects_ok : goal.returns-then-not-objects_ok
-unfolding keeps_test
-returns-then-not-objects_ok c = rw (eq-eqb _ _ c.if-objects-ne-OBJECT_NUMBERS.false, eq-eqb _ _ c.if-threads-ne-THREAD_NUMBERS.false, eq-eqb _ _ c.if-slots-ne-SLOT_NUMBERS.false, judged_ok c.args.objects.now c.args.threads.now c.judge_threads-j.result c.judge_threads-j.ensures ∙ not-false _ c.if-not-j.false, ← judged_live c.args.objects.now c.args.threads.now c.judge_threads-j.result c.judge_threads-j.ensures (not-false _ c.if-not-j.false), via c.objects_ok.ensures c.if-not-objects_ok.true)
+pub returns-then-objects_ok : goal.returns-then-objects_ok
+returns-then-objects_ok c =
+    let e = judged _ _ _ c.in-Some.ensures.cases c.in-Some-as_array.ensures.cases c.in-Some-as_array-2.ensures.cases _ c.in-Some-judge_threads.ensures in
+    c.domains_ok.ensures ∙ (rw (← c.if-objects_ok.ensures) at e)
 
-pub returns : goal.returns
-unfolding keeps_test
-returns c = rw (eq-eqb _ _ c.if-objects-ne-OBJECT_NUMBERS.false, eq-eqb _ _ c.if-threads-ne-THREAD_NUMBERS.false, eq-eqb _ _ c.if-slots-ne-SLOT_NUMBERS.false, judged_ok c.args.objects.now c.args.threads.now c.judge_threads-j.result c.judge_threads-j.ensures ∙ not-false _ c.if-not-j.false, ← judged_live c.args.objects.now c.args.threads.now c.judge_threads-j.result c.judge_threads-j.ensures (not-false _ c.if-not-j.false), via c.objects_ok.ensures c.if-not-objects_ok.false) c.domains_ok.ensures
+pub returns-else-objects_ok : goal.returns-else-objects_ok
+returns-else-objects_ok c =
+    let e = judged _ _ _ c.in-Some.ensures.cases c.in-Some-as_array.ensures.cases c.in-Some-as_array-2.ensures.cases _ c.in-Some-judge_threads.ensures in
+    c.if-objects_ok.false ∙ (rw (← c.if-objects_ok.ensures) at e)

@@ -1,18 +1,11 @@
-use borrow.Author.Rules.{rules}
-use Rattle.answer.specs.Tests.{via}
-use Rattle.domain_rules.proofs.All.{all_none, all_more, all_fails}
-use mathlib.Core.Path.{◌≡◌, sym}
-use native.Mathlib.Omega.{arith}
+use Rattle.std.proofs.Common.{refl, ◌∙◌, rules}
+use Rattle.std.proofs.lemmas.Iterator.{YieldsList-from_range}
+use Rattle.std.proofs.lemmas.Iterator.Search.{all_from_yields_List}
+use Rattle.domain_rules.proofs.All.{all_range}
+use Rattle.rules.specs.Rules.{object_at_ok}
 use Rattle.rules.proofs.objects_ok.Goals as goal
 
-pub loop-h-init : goal.loop-h-init
-loop-h-init c = (search rules, all_none _)
-
-pub returns-then-not-object_ok : goal.returns-then-not-object_ok
-returns-then-not-object_ok c = sym (all_fails _ 256 c.loop-h.h (omega arith) (via c.object_ok.ensures c.if-not-object_ok.true))
-
-pub loop-h-preserved : goal.loop-h-preserved
-loop-h-preserved c = (search rules, all_more _ _ c.loop-h.invariant.1 (via c.object_ok.ensures c.if-not-object_ok.false))
-
 pub returns : goal.returns
-returns c = let e : c.loop-h.h ≡ 256 = omega arith in rw (← e) (sym c.loop-h.invariant.1)
+returns c =
+    let test = object_at_ok c.args.objects.now c.args.live in
+    all_from_yields_List test _ _ _ c.all.ensures.ran (YieldsList-from_range 0 256 256 refl refl) (λ x b q k. search rules) ∙ all_range test 256

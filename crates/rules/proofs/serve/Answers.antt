@@ -1,7 +1,7 @@
-use Rattle.rules.specs.Rules.{serving}
-use native.Mathlib.Nat.{mod-lt, zero-lt-suc}
+use Rattle.std.proofs.Common.{mod-lt, zero-lt-suc}
 use Rattle.bits.specs.Bit.{code_set}
-use Rattle.rules.proofs.with_served.Goals as goal
+use Rattle.rules.specs.Rules.{serving}
+use Rattle.rules.proofs.serve.Goals as goal
 
 pub returns : goal.returns
 unfolding serving
