@@ -4,6 +4,7 @@ use mathlib.Core.Bool.{Bool}
 use Rattle.domain_rules.proofs.attr_ok.Reads as attr-ok
 use Rattle.domain_rules.proofs.slot_ok.Reads as slot-ok
 use Rattle.domain_rules.proofs.is_apart.Reads as is-apart
+use Rattle.domain_rules.proofs.slots_sound.Reads as slots-sound
 use Rattle.domain_rules.proofs.is_sound.Reads as is-sound
 
 pub is_sound_unique : (a : _) (r₁ r₂ : Bool) (s₁ s₂ : _) → is-sound.Post (tt {0}) a r₁ s₁ → is-sound.Post (tt {0}) a r₂ s₂ → r₁ ≡ r₂
@@ -17,3 +18,7 @@ slot_ok_unique a r₁ r₂ s₁ s₂ p q = p ∙ sym q
 
 pub is_apart_unique : (a : _) (r₁ r₂ : Bool) (s₁ s₂ : _) → is-apart.Post (tt {0}) a r₁ s₁ → is-apart.Post (tt {0}) a r₂ s₂ → r₁ ≡ r₂
 is_apart_unique a r₁ r₂ s₁ s₂ p q = p ∙ sym q
+
+pub slots_sound_unique :
+    (g l m n : _) (κs : _) (a : _) (r₁ r₂ : Bool) (s₁ s₂ : _) → slots-sound.Post g l m n κs a r₁ s₁ → slots-sound.Post g l m n κs a r₂ s₂ → r₁ ≡ r₂
+slots_sound_unique g l m n κs a r₁ r₂ s₁ s₂ p q = p ∙ sym q

@@ -46,13 +46,3 @@ slots_sound l = all_to (slot_sound l) slots
 -- the slots keep the rules, and the count is how many of them are active (SPEC 3.33)
 unfoldable pub domain_sound : MemDomain → Bool
 domain_sound d = slots_sound d.partitions && eqb d.num_partitions (active_count d.partitions)
-
--- ---- slots that a closure gives: what it takes, and what it gives (`pre` and `post` of its calls)
-
--- it may be asked for each of the sixteen
-abbrev pub Serves : (ℕ → Type 0) → Type 0
-Serves pre = (k : ℕ) → k < slots → pre k
-
--- what it gives at k is slot k of the list
-abbrev pub Gives : (ℕ → MemPartition → Type 0) → List MemPartition → Type 0
-Gives post l = (k : ℕ) (p : MemPartition) → k < slots → post k p → p ≡ slot_at l k

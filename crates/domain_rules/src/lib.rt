@@ -1,11 +1,12 @@
 // The rules of a memory domain, and the function that judges a record by them. The domain leaf takes any record literally; what plans, checks and
 // stores domains answers VALUE by this. Promised: `is_sound` says true exactly when the rules hold (docs/SPEC.md, 3.33). The slots' own
-// rules (3.32) are judged as a closure gives the slots, so that a record and a whole table of domains go through the same functions, and none is copied.
+// rules (3.32) are judged of whatever has sixteen slots (`Slots`), so that a record and a whole table of domains go through the same functions, and none is copied.
 #![tactic(auto)]
 
 ghost use Rattle.std.specs.Prelude.{◌≡◌, ◌<◌, ◌≤◌, List};
-ghost use Rattle.domain_rules.specs.Sound.{attr_ok, slot_ok, apart_of, clear_of, slot_sound, slots_sound, domain_sound, Serves, Gives};
+ghost use Rattle.domain_rules.specs.Sound.{attr_ok, slot_ok, apart_of, clear_of, slot_sound, slots_sound, domain_sound};
 ghost use Rattle.mem_partition.specs.declared.MemPartition.{MemPartition as MemPartition·spec};
+ghost use Rattle.mem_domain.specs.Domain.{slot_at};
 
 use mem_domain::MemDomain;
 use mem_partition::MemPartition;
@@ -42,14 +43,30 @@ pub fn is_apart(p: MemPartition, q: MemPartition) -> bool
     !p.overlaps(q)
 }
 
-// Whether q overlaps none of the first k slots that a closure gives.
-fn is_clear<F: Fn(usize) -> MemPartition>(slot: &F, k: usize, q: MemPartition) -> bool
-    requires serves { Serves (F.pre slot.now) }
-    requires within { k ≤ 16 }
-    ensures { (l : List MemPartition·spec) → Gives (F.post slot.now) l → result ≡ clear_of l q k }
+// Sixteen slots, wherever they stand: those of a record, or of a part of a table. They are judged where they are, and none is copied.
+pub trait Slots {
+    ghost held: { Self → List MemPartition·spec };
+
+    fn slot(&self, k: usize) -> MemPartition
+        requires { k < 16 }
+        ensures { result ≡ slot_at (held self.now) k };
+}
+
+impl Slots for MemDomain {
+    ghost held = { λ d. d.partitions };
+
+    fn slot(&self, k: usize) -> MemPartition {
+        self.partitions[k]
+    }
+}
+
+// Whether q overlaps none of the first k slots.
+fn is_clear<S: Slots>(at: &S, k: usize, q: MemPartition) -> bool
+    requires { k ≤ 16 }
+    ensures { result ≡ clear_of (S.held at.now) q k }
 {
     for j in 0..k {
-        if !is_apart(slot(j), q) {
+        if !is_apart(at.slot(j), q) {
             return false;
         }
     }
@@ -57,28 +74,26 @@ fn is_clear<F: Fn(usize) -> MemPartition>(slot: &F, k: usize, q: MemPartition) -
 }
 
 // A free slot overlaps nothing: only pairs of active slots are looked at.
-fn slot_sound<F: Fn(usize) -> MemPartition>(slot: &F, k: usize) -> bool
-    requires serves { Serves (F.pre slot.now) }
-    requires within { k < 16 }
-    ensures { (l : List MemPartition·spec) → Gives (F.post slot.now) l → result ≡ slot_sound l k }
+fn slot_sound<S: Slots>(at: &S, k: usize) -> bool
+    requires { k < 16 }
+    ensures { result ≡ slot_sound (S.held at.now) k }
 {
-    let q = slot(k);
+    let q = at.slot(k);
     if !slot_ok(q) {
         return false;
     }
     if q.size == 0 {
         return true;
     }
-    is_clear(slot, k, q)
+    is_clear(at, k, q)
 }
 
-// Whether the sixteen slots that a closure gives keep the rules, and no two of them overlap.
-pub fn slots_sound<F: Fn(usize) -> MemPartition>(slot: F) -> bool
-    requires { Serves (F.pre slot) }
-    ensures { (l : List MemPartition·spec) → Gives (F.post slot) l → result ≡ slots_sound l }
+// Whether sixteen slots keep the rules, and no two of them overlap.
+pub fn slots_sound<S: Slots>(at: &S) -> bool
+    ensures { result ≡ slots_sound (S.held at.now) }
 {
     for k in 0..SLOTS {
-        if !slot_sound(&slot, k) {
+        if !slot_sound(at, k) {
             return false;
         }
     }
@@ -86,9 +101,9 @@ pub fn slots_sound<F: Fn(usize) -> MemPartition>(slot: F) -> bool
 }
 
 // Whether a domain record keeps every rule (SPEC 3.33), that of its count too.
+#[tactic(auto, unfolding(crate::specs::Sound::domain_sound, mem_domain::specs::Domain::with_count))]
 pub fn is_sound(domain: MemDomain) -> bool
     ensures { result ≡ domain_sound domain }
 {
-    slots_sound(|k| domain.partitions[k])
-        && domain.num_partitions == domain.counted().num_partitions
+    slots_sound(&domain) && domain.num_partitions == domain.counted().num_partitions
 }

@@ -10,6 +10,7 @@ ghost use Rattle.tables.specs.Table.{DOMAINS as DOMAINS·spec};
 ghost use Rattle.tables.specs.Table.{partition_at, partitions_at};
 ghost use Rattle.rules.specs.Rules.{is_served, serving, thread_ok, judged_threads, object_ok, object_at_ok, domains_sound, keeps_test};
 
+use domain_rules::Slots;
 use mem_partition::MemPartition;
 use tables::{
     DOMAINS, HANDLES, OBJECT_NUMBERS, SLOT_NUMBERS, SLOTS, THREAD_NUMBERS, THREADS, Thread,
@@ -113,12 +114,27 @@ fn partition_in(slots: &[u32; SLOT_NUMBERS], n: usize) -> MemPartition
     }
 }
 
-// The slots are judged where they stand in the table: none is copied into a domain's record.
+// Domain d where it stands in the table: none of its slots is copied into a record.
+#[derive(Clone, Copy)]
+struct DomainIn<'a> {
+    slots: &'a [u32; SLOT_NUMBERS],
+    d: usize,
+    ghost within: { d < 8 },
+}
+
+impl Slots for DomainIn<'_> {
+    ghost held = { λ s. partitions_at s.slots.now s.d };
+
+    fn slot(&self, k: usize) -> MemPartition {
+        partition_in(self.slots, SLOTS * self.d + k)
+    }
+}
+
 fn domain_ok(slots: &[u32; SLOT_NUMBERS], d: usize) -> bool
     requires { d < 8 }
     ensures { result ≡ slots_sound (partitions_at slots.now d) }
 {
-    domain_rules::slots_sound(|k| partition_in(slots, SLOTS * d + k))
+    domain_rules::slots_sound(&DomainIn { slots, d })
 }
 
 fn domains_ok(slots: &[u32; SLOT_NUMBERS]) -> bool

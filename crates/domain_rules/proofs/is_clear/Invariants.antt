@@ -1,7 +1,6 @@
-use Rattle.std.proofs.Common.{◌≡◌, List, true}
-use Rattle.mem_partition.specs.declared.MemPartition.{MemPartition}
-use Rattle.domain_rules.specs.Sound.{clear_of, Gives}
+use Rattle.std.proofs.Common.{◌≡◌, true}
+use Rattle.domain_rules.specs.Sound.{clear_of}
 use Rattle.domain_rules.proofs.is_clear.Given as goal
 
 abbrev pub invariant-loop-j : goal.invariant-loop-j
-invariant-loop-j g l = (s : List MemPartition) → Gives (goal.F-post g l.slot) s → clear_of s l.q l.j ≡ true
+invariant-loop-j g l = clear_of (g.S.Slots.held l.at) l.q l.j ≡ true
