@@ -3,130 +3,111 @@
 // as specs/Words.antt has them; how many bytes they have; what lies behind them stays. The refusals are those of `lines`.
 #![tactic(auto)]
 
-ghost use Rattle.std.specs.Prelude.{◌≡◌, ◌+◌, ◌*◌, ◌≤◌, length};
-ghost use Rattle.answer.specs.Stores.{cat};
+ghost use Rattle.std.specs.Prelude.{◌≡◌, ◌+◌, ◌*◌, ◌^◌, ◌<◌, ◌≤◌, length};
+ghost use Rattle.std.proofs.Common.{lit<};
 ghost use Rattle.lines.specs.Lines.{Lines};
-ghost use Rattle.lines.specs.Steps.{Piece};
+ghost use Rattle.lines.specs.Pens.{Room, Writes, Wrote};
 ghost use Rattle.calls.specs.Calls.{part_at};
 ghost use Rattle.words.specs.Words.{widest_call};
-ghost use Rattle.explain.specs.Words.{cut_off, part_words, numeral, is_address, explained, explained_at, longest_line};
+ghost use Rattle.explain.specs.Words.{cut_off, part_words, number_at, is_address, explained, explained_at, longest_line};
 
-use lines::Put;
+use answer::Code;
+use lines::{Form, Pen};
 
 // How many bytes a call has, and the operation's number of a memory check.
 const CALL: usize = 16;
 
 const CHECK: u8 = 3;
 
+// Lines are numbered by 32 bits.
+const NUMBERS: usize = 1 << 32;
+
 // The longest line: its number with a colon and a space, a call, an answer.
 pub const LONGEST: usize = 12 + words::CALL + words::ANSWER;
 
-fn put_cut_off(text: &mut [u8], at: usize, n: u32) -> usize
-    requires { at + widest_call ≤ length text.old }
-    ensures { Piece text.old at widest_call (cut_off n) result text.new }
+fn put_cut_off(pen: &mut Pen, n: u32)
+    ensures { Writes pen.old pen.new widest_call (cut_off n) }
 {
-    let p = at + text::put_word(text, at, b"cut off after ");
-    let q = p + text::put_number(text, p, n);
-    q + text::put_word(text, q, b" bytes")
+    pen.word(b"cut off after ");
+    pen.number(n);
+    pen.word(b" bytes")
 }
 
-fn put_part(text: &mut [u8], at: usize, bytes: &[u8]) -> usize
-    requires { at + widest_call ≤ length text.old }
-    ensures { Piece text.old at widest_call (part_words bytes.now) result text.new }
+fn put_part(pen: &mut Pen, bytes: &[u8])
+    ensures { Writes pen.old pen.new widest_call (part_words bytes.now) }
 {
     if bytes.len() < CALL {
-        return put_cut_off(text, at, bytes.len() as u32);
+        return put_cut_off(pen, bytes.len() as u32);
     }
-    words::put_call(text, at, decoding::decode_bytewise(bytes))
-}
-
-fn put_numeral(text: &mut [u8], at: usize, number: u32) -> usize
-    requires { at + 12 ≤ length text.old }
-    ensures { Piece text.old at 12 (numeral number) result text.new }
-{
-    let p = at + text::put_number(text, at, number);
-    p + text::put_word(text, p, b": ")
+    pen.at = words::put_call(pen.text, pen.at, decoding::decode_bytewise(bytes));
 }
 
 // Whether a part's value is an address: that of a memory check that is EPERM.
+#[tactic(auto, unfolding(crate::specs::Words::is_address))]
 fn is_address(bytes: &[u8], code: u32) -> bool
     ensures { result ≡ is_address bytes.now code }
 {
-    if code != answer::EPERM {
-        return false;
-    }
-    if bytes.len() == 0 {
-        return false;
-    }
-    bytes[0] == CHECK
-}
-
-fn put_line(text: &mut [u8], at: usize, number: u32, bytes: &[u8], code: u32, value: u32) -> usize
-    requires { at + longest_line ≤ length text.old }
-    ensures { Piece text.old at longest_line (explained number bytes.now code value) result text.new }
-{
-    let p = put_numeral(text, at, number);
-    let q = put_part(text, p, bytes);
-    words::put_answer(text, q, is_address(bytes, code), code, value)
+    code == answer::EPERM && matches!(bytes, [CHECK, ..])
 }
 
 // The k-th part of a log: sixteen bytes, what is left at the end, or nothing past it.
-fn put_part_at(
-    text: &mut [u8],
-    at: usize,
-    number: u32,
-    log: &[u8],
-    k: usize,
-    code: u32,
-    value: u32,
-) -> usize
-    requires { (at + longest_line ≤ length text.old) × (longest_line * k ≤ length text.old) }
-    ensures { Piece text.old at longest_line (explained number (part_at log.now k) code value) result text.new }
+fn part_of(log: &[u8], k: usize) -> &[u8]
+    requires { 16 * k < 2 ^ 64 }
+    ensures { result.now ≡ part_at log.now k }
 {
-    let from = CALL * k;
-    if log.len() < from {
-        return put_line(text, at, number, b"", code, value);
-    }
-    if log.len() - from < CALL {
-        return put_line(text, at, number, &log[from..], code, value);
-    }
-    put_line(text, at, number, &log[from..from + CALL], code, value)
+    let rest = &log[log.len().min(CALL * k)..];
+    &rest[..rest.len().min(CALL)]
 }
 
-fn put_all(text: &mut [u8], first: u32, log: &[u8], out: &[u32], n: usize) -> usize
-    requires { (longest_line * n ≤ length text.old) × (2 * n ≤ length out.now) }
-    ensures { Piece text.old 0 (longest_line * n) (cat (explained_at first log.now out.now) n) result text.new }
+// The k-th line's number; behind the greatest it begins again at 0.
+fn number_of(first: u32, k: usize) -> u32
+    requires { k < 2 ^ 63 }
+    ensures { result ≡ number_at first k }
 {
-    let mut at: usize = 0;
-    let mut number = first;
-    let mut k: usize = 0;
-    while k < n {
-        at = put_part_at(text, at, number, log, k, out[2 * k], out[2 * k + 1]);
-        number = std::num::wrapping_add_u32(number, 1);
-        k += 1;
+    ((first as usize + k) % NUMBERS) as u32
+}
+
+// The parts of a log, the first of which has a number.
+#[derive(Clone, Copy)]
+struct Explained<'a> {
+    first: u32,
+    log: &'a [u8],
+}
+
+impl Form for Explained<'_> {
+    ghost longest = { longest_line };
+
+    ghost line = { λ it k code value. explained (number_at it.first k) (part_at it.log.now k) code value };
+
+    fn longest(&self) -> usize
+        ensures { result ≡ longest_line }
+    {
+        LONGEST
     }
-    at
+
+    fn put_line(&self, pen: &mut Pen, k: usize, code: u32, value: u32)
+        requires { Room pen.old longest_line × (longest_line * k ≤ length pen.old.text.now) }
+        ensures { Wrote pen.old pen.new longest_line (explained (number_at self.now.first k) (part_at self.now.log.now k) code value) }
+    {
+        let part = part_of(self.log, k);
+        pen.number(number_of(self.first, k));
+        pen.word(b": ");
+        put_part(pen, part);
+        pen.at = words::put_answer(pen.text, pen.at, is_address(part, code), code, value);
+    }
+
+    ghost some_bytes = { lit< tt };
 }
 
 // The first part's number is `first`.
-pub fn put_explained(first: u32, log: &[u8], out: &[u32], n: usize, text: &mut [u8]) -> Put
+pub fn put_explained(
+    first: u32,
+    log: &[u8],
+    out: &[u32],
+    n: usize,
+    text: &mut [u8],
+) -> Result<usize, Code>
     ensures { Lines (explained_at first log.now out.now) longest_line out.now n text.old result text.new }
 {
-    if out.len() / 2 < n {
-        return Put {
-            code: answer::EINVAL,
-            bytes: 0,
-        };
-    }
-    if text.len() / LONGEST < n {
-        return Put {
-            code: answer::ROOM,
-            bytes: 0,
-        };
-    }
-    let bytes = put_all(text, first, log, out, n);
-    Put {
-        code: answer::OK,
-        bytes,
-    }
+    lines::put_lines_as(&Explained { first, log }, out, n, text)
 }

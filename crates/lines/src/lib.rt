@@ -4,17 +4,17 @@
 // A `Pen` puts one piece behind the other.
 #![tactic(auto)]
 
-ghost use Rattle.std.specs.Prelude.{◌≡◌, ℕ, ◌+◌, ◌*◌, ◌<◌, ◌≤◌, List, length};
+ghost use Rattle.std.specs.Prelude.{◌≡◌, ℕ, ◌+◌, ◌*◌, ◌<◌, ◌≤◌, List, length, max};
 ghost use Rattle.std.proofs.Common.{lit<};
 ghost use Rattle.answer.specs.Stores.{cat};
 ghost use Rattle.text.specs.Text.{decimal, hex};
 ghost use Rattle.lines.specs.Lines.{line, line_at, line_in, Lines};
 ghost use Rattle.lines.specs.Steps.{Piece};
-ghost use Rattle.lines.specs.Pens.{Room, Wrote};
+ghost use Rattle.lines.specs.Pens.{put_by, Room, Wrote, Writes};
 
 use answer::Code;
 
-// A lent buffer, and the place in it where the next piece goes. Its writers ask for room, so that they test nothing.
+// A lent buffer, and the place in it where the next piece goes. A piece that has no room there is not put, and the pen stays.
 #[derive(Drop)]
 pub struct Pen<'a> {
     pub text: &'a mut [u8],
@@ -23,24 +23,23 @@ pub struct Pen<'a> {
 
 impl<'a> Pen<'a> {
     pub fn word(&mut self, word: &[u8])
-        requires { Room self.old (length word.now) }
-        ensures { Wrote self.old self.new (length word.now) word.now }
+        ensures exact { self.new ≡ put_by self.old word.now }
+        ensures with_room { Writes self.old self.new (length word.now) word.now }
     {
-        self.text[self.at..self.at + word.len()].copy_from_slice(word);
-        self.at += word.len();
+        self.at += text::put_word(self.text, self.at, word);
     }
 
     pub fn number(&mut self, n: u32)
-        requires { Room self.old 10 }
-        ensures { Wrote self.old self.new 10 (decimal n) }
+        ensures exact { self.new ≡ put_by self.old (decimal n) }
+        ensures with_room { Writes self.old self.new 10 (decimal n) }
     {
         self.at += text::put_number(self.text, self.at, n);
     }
 
     // In base 16, with at least so many digits.
     pub fn hex(&mut self, least: usize, n: u32)
-        requires { (least ≤ 8) × Room self.old 8 }
-        ensures { Wrote self.old self.new 8 (hex least n) }
+        ensures exact { self.new ≡ put_by self.old (hex least n) }
+        ensures with_room { Writes self.old self.new (max least 8) (hex least n) }
     {
         self.at += text::put_hex(self.text, self.at, least, n);
     }
@@ -48,36 +47,48 @@ impl<'a> Pen<'a> {
 
 // A form of lines: how many bytes the longest has, and what the k-th line says of an answer and its value.
 pub trait Form {
-    ghost LONGEST: { ℕ };
+    ghost longest: { ℕ };
 
     ghost line: { Self → ℕ → ℕ → ℕ → List ℕ };
 
-    const LONGEST: usize;
+    fn longest(&self) -> usize
+        ensures { result ≡ longest };
 
     fn put_line(&self, pen: &mut Pen, k: usize, code: u32, value: u32)
-        requires { Room pen.old LONGEST × (LONGEST * k ≤ length pen.old.text.now) }
-        ensures { Wrote pen.old pen.new LONGEST (line self.now k code value) };
+        requires { Room pen.old longest × (longest * k ≤ length pen.old.text.now) }
+        ensures { Wrote pen.old pen.new longest (line self.now k code value) };
 
-    ghost some_bytes: { 0 < LONGEST };
+    ghost some_bytes: { 0 < longest };
 }
 
 // Ten digits, a space, ten digits and the line's end.
 pub const LONGEST: usize = 22;
 
+// A line of four bytes, which most are: an answer below ten with value 0. It costs no counting of digits and no test for room.
+fn put_short(pen: &mut Pen, code: u32)
+    requires { (code < 10) × Room pen.old 22 }
+    ensures { Wrote pen.old pen.new 22 (line code 0) }
+{
+    let end = pen.at + 4;
+    pen.text[pen.at..end].copy_from_slice(&[b'0' + code as u8, b' ', b'0', b'\n']);
+    pen.at = end;
+}
+
 // The answer and its value in decimal.
 struct Numbers;
 
 impl Form for Numbers {
-    ghost LONGEST = { 22 };
+    ghost longest = { 22 };
 
     ghost line = { λ _ _. line };
 
-    const LONGEST: usize = LONGEST;
+    fn longest(&self) -> usize {
+        LONGEST
+    }
 
-    // A line of four bytes, which most are, costs no counting of digits.
     fn put_line(&self, pen: &mut Pen, _k: usize, code: u32, value: u32) {
         if value == 0 && code < 10 {
-            return pen.word(&[b'0' + code as u8, b' ', b'0', b'\n']);
+            return put_short(pen, code);
         }
         pen.number(code);
         pen.word(b" ");
@@ -89,8 +100,8 @@ impl Form for Numbers {
 }
 
 fn put_all<F: Form>(form: &F, text: &mut [u8], out: &[u32], n: usize) -> usize
-    requires { (F.LONGEST * n ≤ length text.old) × (2 * n ≤ length out.now) }
-    ensures { Piece text.old 0 (F.LONGEST * n) (cat (line_in (F.line form.now) out.now) n) result text.new }
+    requires { (F.longest * n ≤ length text.old) × (2 * n ≤ length out.now) }
+    ensures { Piece text.old 0 (F.longest * n) (cat (line_in (F.line form.now) out.now) n) result text.new }
 {
     let mut pen = Pen { text, at: 0 };
     for k in 0..n {
@@ -105,12 +116,12 @@ pub fn put_lines_as<F: Form>(
     n: usize,
     text: &mut [u8],
 ) -> Result<usize, Code>
-    ensures { Lines (line_in (F.line form.now) out.now) F.LONGEST out.now n text.old result text.new }
+    ensures { Lines (line_in (F.line form.now) out.now) F.longest out.now n text.old result text.new }
 {
     if out.len() / 2 < n {
         return Err(Code::Einval);
     }
-    if text.len() / F::LONGEST < n {
+    if text.len() / form.longest() < n {
         return Err(Code::Room);
     }
     Ok(put_all(form, text, out, n))

@@ -1,12 +1,12 @@
 -- What the crates above cite of words that were put: where the widest have room they are a piece, and none are wider than that.
-use Rattle.std.specs.Prelude.{◌≡◌, ℕ, zero, suc, ◌+◌, ◌-◌, ◌*◌, ◌%◌, ◌^◌, ◌<◌, ◌≤◌, max, Bool, true, false, cond, List, [], ◌∷◌, ◌++◌, length, drop, ◌==◌, nat_lt, refl}
-use Rattle.std.proofs.Common.{arith, ◌∙◌, length-append, length-take, le-leb}
+use Rattle.std.specs.Prelude.{ℕ, zero, suc, ◌+◌, ◌-◌, ◌*◌, ◌%◌, ◌^◌, ◌<◌, ◌≤◌, Bool, true, false, cond, List, [], ◌∷◌, ◌++◌, length, ◌==◌, nat_lt, refl}
+use Rattle.std.proofs.Common.{arith, ◌∙◌, length-append, le-leb}
 use Rattle.std.proofs.lemmas.Bool.{lt-leb}
-use Rattle.text.specs.Text.{ascii, decimal, hex}
+use Rattle.text.specs.Text.{ascii, decimal}
 use Rattle.text.specs.Laws.{decimal_most, hex_most}
 use Rattle.lines.specs.Steps.{Piece}
 use Rattle.decoding.specs.declared.Call.{Call}
-use Rattle.words.specs.Words.{before, nth, operation_names, answer_names, type_names, mode_names, rights_names, unknown, rank, operation, answer_name, address, size, labelled, field, unused, named, type, role, access, rights, home, mode_number, mode, on_handle, on_thread, on_domain, field_a, other_b, field_b, other_c, field_c, field_d, fields, call_words, value_words, answer_words, widest_operation, widest_field, widest_call, widest_answer}
+use Rattle.words.specs.Words.{Names, nth, longest, operation_names, answer_names, type_names, role_names, access_names, mode_names, rights_names, unknown, rank, operation, answer_name, address, size, labelled, field, unused, named, type, role, access, rights, home, mode_number, mode, on_handle, on_thread, on_domain, field_a, other_b, field_b, other_c, field_c, field_d, fields, call_words, value_words, answer_words, widest_operation, widest_field, widest_call, widest_answer}
 use Rattle.words.specs.Placed.{place_after, text_after, Placed}
 
 -- ---- with room, and without
@@ -54,57 +54,33 @@ number n = record { bound = decimal_most n }
 looser : {m : ℕ} {xs : List ℕ} (m' : ℕ) → m ≤ m' → Most m xs → Most m' xs
 looser m' h x = record { bound = omega (arith, x.bound) }
 
--- ---- a row of names
+-- ---- names
 
--- the longest name of a row, of whose first m bytes were counted before
-unfoldable pub widest : ℕ → List ℕ → ℕ
-widest m [] = m
-widest m (x ∷ xs) = cond (x == 44) (max m (widest 0 xs)) (widest (suc m) xs)
+pub nth_most : (k : ℕ) (names : Names) → length (nth k names) ≤ longest names
+unfolding longest
+nth_most k [] = omega arith
+nth_most zero (name ∷ names) = omega arith
+nth_most (suc k) (name ∷ names) = omega (arith, nth_most k names)
 
-before_step : (t : Bool) (m p w v : ℕ) → suc m + p ≤ v → m + cond t 0 (suc p) ≤ cond t (max m w) v
-before_step true m p w v h = omega arith
-before_step false m p w v h = omega arith
+-- one of names whose longest has so many bytes
+one_of : (m k : ℕ) (names : Names) → longest names ≤ m → Most m (nth k names)
+one_of m k names h = record { bound = omega (arith, nth_most k names, h) }
 
-before_most : (m : ℕ) (xs : List ℕ) → m + before xs ≤ widest m xs
-unfolding before widest
-before_most m [] = omega arith
-before_most m (x ∷ xs) = before_step (x == 44) m (before xs) (widest 0 xs) (widest (suc m) xs) (before_most (suc m) xs)
-
-rest_step : (t : Bool) (m p v x : ℕ) (xs : List ℕ) → widest 0 (drop (suc p) xs) ≤ v
-    → widest 0 (drop (suc (cond t 0 (suc p))) (x ∷ xs)) ≤ cond t (max m (widest 0 xs)) v
-rest_step true m p v x xs h = omega arith
-rest_step false m p v x xs h = h
-
-rest_most : (m : ℕ) (xs : List ℕ) → widest 0 (drop (suc (before xs)) xs) ≤ widest m xs
-unfolding before widest
-rest_most m [] = omega arith
-rest_most m (x ∷ xs) = rest_step (x == 44) m (before xs) (widest (suc m) xs) x xs (rest_most (suc m) xs)
-
--- no name of a row is longer than its longest
-pub nth_most : (k : ℕ) (xs : List ℕ) → length (nth k xs) ≤ widest 0 xs
-unfolding nth
-nth_most zero xs = rw (length-take (before xs) xs) (omega (arith, before_most 0 xs))
-nth_most (suc k) xs = omega (arith, nth_most k (drop (suc (before xs)) xs), rest_most 0 xs)
-
--- a name from a row whose longest has so many bytes
-row : (m k : ℕ) (xs : List ℕ) → widest 0 xs ≤ m → Most m (nth k xs)
-row m k xs h = record { bound = omega (arith, nth_most k xs, h) }
-
-pub rank_most : (k : ℕ) → length (nth k operation_names) ≤ widest_operation
-unfolding widest
-rank_most k = (row widest_operation k operation_names (omega arith)).bound
+pub operation_name_most : (k : ℕ) → length (nth k operation_names) ≤ widest_operation
+unfolding longest
+operation_name_most k = (one_of widest_operation k operation_names (omega arith)).bound
 
 pub mode_name_most : (k : ℕ) → length (nth k mode_names) ≤ 23
-unfolding widest
-mode_name_most k = (row 23 k mode_names (omega arith)).bound
+unfolding longest
+mode_name_most k = (one_of 23 k mode_names (omega arith)).bound
 
 pub answer_name_most : (k : ℕ) → length (nth k answer_names) ≤ 10
-unfolding widest
-answer_name_most k = (row 10 k answer_names (omega arith)).bound
+unfolding longest
+answer_name_most k = (one_of 10 k answer_names (omega arith)).bound
 
 operation_most : (op : ℕ) → Most widest_operation (operation op)
 unfolding operation unknown
-operation_most op = either (nat_lt (rank op) 18) (record { bound = rank_most (rank op) }) (word 10 (ascii "operation ") (omega arith) and number op)
+operation_most op = either (nat_lt (rank op) 18) (record { bound = operation_name_most (rank op) }) (word 10 (ascii "operation ") (omega arith) and number op)
 
 name_most : (code : ℕ) → Most 10 (answer_name code)
 unfolding answer_name
@@ -133,26 +109,26 @@ unused_most : (name : List ℕ) (n : ℕ) → length name ≤ 10 → Most widest
 unfolding unused
 unused_most name n h = either (n == 0) (word widest_field [] (omega arith)) (field_most name n h)
 
-named_most : (front names : List ℕ) (many : ℕ) (name : List ℕ) (n : ℕ) → length front ≤ 7 → widest 0 names ≤ 18 → length name ≤ 10
-    → Most widest_field (named front names many name n)
+named_most : (front : List ℕ) (names : Names) (name : List ℕ) (n : ℕ) → length front ≤ 7 → longest names ≤ 18 → length name ≤ 10
+    → Most widest_field (named front names name n)
 unfolding named
-named_most front names many name n f h g = either (nat_lt n many) (word 7 front f and row 18 n names h) (field_most name n g)
+named_most front names name n f h g = either (nat_lt n (length names)) (word 7 front f and one_of 18 n names h) (field_most name n g)
 
 type_most : (n : ℕ) → Most widest_field (type n)
-unfolding type widest
-type_most n = named_most (ascii ", type ") type_names 16 (ascii "type") n (omega arith) (omega arith) (omega arith)
+unfolding type longest
+type_most n = named_most (ascii ", type ") type_names (ascii "type") n (omega arith) (omega arith) (omega arith)
 
 role_most : (n : ℕ) → Most widest_field (role n)
-unfolding role widest
-role_most n = named_most (ascii ", as ") (ascii "user,supervisor") 2 (ascii "supervisor") n (omega arith) (omega arith) (omega arith)
+unfolding role longest
+role_most n = named_most (ascii ", as ") role_names (ascii "supervisor") n (omega arith) (omega arith) (omega arith)
 
 access_most : (n : ℕ) → Most widest_field (access n)
-unfolding access widest
-access_most n = named_most (ascii ", ") (ascii "read,write") 2 (ascii "access") n (omega arith) (omega arith) (omega arith)
+unfolding access longest
+access_most n = named_most (ascii ", ") access_names (ascii "access") n (omega arith) (omega arith) (omega arith)
 
 rights_most : (n : ℕ) → Most widest_field (rights n)
-unfolding rights widest
-rights_most n = named_most (ascii ", ") rights_names 8 (ascii "attr") n (omega arith) (omega arith) (omega arith)
+unfolding rights longest
+rights_most n = named_most (ascii ", ") rights_names (ascii "attr") n (omega arith) (omega arith) (omega arith)
 
 home_most : (n : ℕ) → Most widest_field (home n)
 unfolding home

@@ -1,4 +1,3 @@
 pub mod Words
-pub mod Row
 pub mod Placed
 pub mod Laws

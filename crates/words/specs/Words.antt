@@ -2,47 +2,69 @@
 -- A field has its own word before it, or is one of a few words. Addresses and starts are 0x and eight digits in base 16, lengths and sizes 0x and no zeros in
 -- front, all other numbers decimal. A field that the operation does not use is left out where it is 0; where it is not, it is why the call is EINVAL, and it is
 -- shown with its letter. So a line tells every byte of its call.
-use Rattle.std.specs.Prelude.{ℕ, zero, suc, ◌+◌, ◌-◌, ◌*◌, ◌%◌, ◌^◌, Bool, true, false, cond, List, [], ◌∷◌, ◌++◌, take, drop, ◌==◌, nat_lt}
+use Rattle.std.specs.Prelude.{ℕ, ◌+◌, ◌-◌, ◌*◌, ◌%◌, ◌^◌, Bool, true, false, cond, List, [], ◌∷◌, ◌++◌, max, length, map, get_or, ◌==◌, nat_lt}
+use Rattle.std.proofs.Common.{Bor}
 use Rattle.text.specs.Text.{ascii, decimal, hex}
 use Rattle.decoding.specs.declared.Call.{Call}
+use Rattle.words.specs.declared.Shape.{Shape}
+use Rattle.words.specs.declared.Shape.TheVariants.{Decimal, Address, Size}
 
--- ---- a row of names, with commas between them
+-- ---- names
 
--- how many bytes stand before the first comma, which is 44
-unfoldable pub before : List ℕ → ℕ
-before [] = 0
-before (x ∷ xs) = cond (x == 44) 0 (suc (before xs))
+abbrev pub Names : Type 0
+Names = List (List ℕ)
 
 -- the k-th name
-unfoldable pub nth : ℕ → List ℕ → List ℕ
-nth zero xs = take (before xs) xs
-nth (suc k) xs = nth k (drop (suc (before xs)) xs)
+abbrev pub nth : ℕ → Names → List ℕ
+nth k names = get_or names k []
+
+-- the longest has so many bytes
+unfoldable pub longest : Names → ℕ
+longest [] = 0
+longest (name ∷ names) = max (length name) (longest names)
+
+-- what lent names say
+abbrev pub texts : List (Bor (List ℕ)) → Names
+texts names = map (λ (name : Bor (List ℕ)). name.now) names
 
 -- the operations 0 to 4, and behind them 16 to 28
-abbrev pub operation_names : List ℕ
+abbrev pub operation_names : Names
 operation_names =
-    ascii "validate,grant,release,memory check,exit,create object,delete object,revoke,init,uninit,recycle,make public,create thread,end thread,inherit,assign,add partition,remove partition"
+    ascii "validate" ∷ ascii "grant" ∷ ascii "release" ∷ ascii "memory check" ∷ ascii "exit" ∷ ascii "create object" ∷
+    ascii "delete object" ∷ ascii "revoke" ∷ ascii "init" ∷ ascii "uninit" ∷ ascii "recycle" ∷ ascii "make public" ∷
+    ascii "create thread" ∷ ascii "end thread" ∷ ascii "inherit" ∷ ascii "assign" ∷ ascii "add partition" ∷ ascii "remove partition" ∷ []
 
-abbrev pub answer_names : List ℕ
-answer_names = ascii "OK,EINVAL,EPERM,EBADF,EADDRINUSE,ENOSPC,ENOENT,SHORT,MAGIC,VALUE,NOPLAN,ROOM,DIFFERS"
+abbrev pub answer_names : Names
+answer_names =
+    ascii "OK" ∷ ascii "EINVAL" ∷ ascii "EPERM" ∷ ascii "EBADF" ∷ ascii "EADDRINUSE" ∷ ascii "ENOSPC" ∷ ascii "ENOENT" ∷
+    ascii "SHORT" ∷ ascii "MAGIC" ∷ ascii "VALUE" ∷ ascii "NOPLAN" ∷ ascii "ROOM" ∷ ascii "DIFFERS" ∷ []
 
-abbrev pub type_names : List ℕ
-type_names = ascii "Any,Thread,Sem,Mutex,CondVar,MsgQ,Stack,Pipe,Timer,Event,MemSlab,Fifo,Lifo,SysMutex,Futex,Mbox"
+abbrev pub type_names : Names
+type_names =
+    ascii "Any" ∷ ascii "Thread" ∷ ascii "Sem" ∷ ascii "Mutex" ∷ ascii "CondVar" ∷ ascii "MsgQ" ∷ ascii "Stack" ∷ ascii "Pipe" ∷
+    ascii "Timer" ∷ ascii "Event" ∷ ascii "MemSlab" ∷ ascii "Fifo" ∷ ascii "Lifo" ∷ ascii "SysMutex" ∷ ascii "Futex" ∷ ascii "Mbox" ∷ []
+
+abbrev pub role_names : Names
+role_names = ascii "user" ∷ ascii "supervisor" ∷ []
+
+abbrev pub access_names : Names
+access_names = ascii "read" ∷ ascii "write" ∷ []
 
 -- the modes -1, 0 and 1
-abbrev pub mode_names : List ℕ
-mode_names = ascii "must not be initialised,must be initialised,initialised or not"
+abbrev pub mode_names : Names
+mode_names = ascii "must not be initialised" ∷ ascii "must be initialised" ∷ ascii "initialised or not" ∷ []
 
 -- 1 read, 2 write, 4 execute: 0 to 7, of which those without the 1 are no rights
-abbrev pub rights_names : List ℕ
-rights_names = ascii "attr 0,r--,attr 2,rw-,attr 4,r-x,attr 6,rwx"
+abbrev pub rights_names : Names
+rights_names =
+    ascii "attr 0" ∷ ascii "r--" ∷ ascii "attr 2" ∷ ascii "rw-" ∷ ascii "attr 4" ∷ ascii "r-x" ∷ ascii "attr 6" ∷ ascii "rwx" ∷ []
 
 -- ---- an operation, an answer
 
 unfoldable pub unknown : ℕ → List ℕ
 unknown op = ascii "operation " ++ decimal op
 
--- where an operation stands in the row; from 18 on it has no name
+-- where an operation stands among the names; from 18 on it has none
 unfoldable pub rank : ℕ → ℕ
 rank op = cond (nat_lt op 5) op (cond (nat_lt op 16) 18 (op - 11))
 
@@ -60,6 +82,12 @@ address n = ascii "0x" ++ hex 8 n
 unfoldable pub size : ℕ → List ℕ
 size n = ascii "0x" ++ hex 1 n
 
+-- how a number is told: in decimal, as an address or as a size
+abbrev pub told : Shape → ℕ → List ℕ
+told Decimal n = decimal n
+told Address n = address n
+told Size n = size n
+
 unfoldable pub labelled : List ℕ → List ℕ → List ℕ
 labelled name xs = ascii ", " ++ name ++ ascii " " ++ xs
 
@@ -69,21 +97,21 @@ field name n = labelled name (decimal n)
 unfoldable pub unused : List ℕ → ℕ → List ℕ
 unused name n = cond (n == 0) [] (field name n)
 
--- the n-th of the first names of a row, else the number
-unfoldable pub named : List ℕ → List ℕ → ℕ → List ℕ → ℕ → List ℕ
-named front names many name n = cond (nat_lt n many) (front ++ nth n names) (field name n)
+-- the n-th of some names, else the number
+unfoldable pub named : List ℕ → Names → List ℕ → ℕ → List ℕ
+named front names name n = cond (nat_lt n (length names)) (front ++ nth n names) (field name n)
 
 unfoldable pub type : ℕ → List ℕ
-type n = named (ascii ", type ") type_names 16 (ascii "type") n
+type n = named (ascii ", type ") type_names (ascii "type") n
 
 unfoldable pub role : ℕ → List ℕ
-role n = named (ascii ", as ") (ascii "user,supervisor") 2 (ascii "supervisor") n
+role n = named (ascii ", as ") role_names (ascii "supervisor") n
 
 unfoldable pub access : ℕ → List ℕ
-access n = named (ascii ", ") (ascii "read,write") 2 (ascii "access") n
+access n = named (ascii ", ") access_names (ascii "access") n
 
 unfoldable pub rights : ℕ → List ℕ
-rights n = named (ascii ", ") rights_names 8 (ascii "attr") n
+rights n = named (ascii ", ") rights_names (ascii "attr") n
 
 -- the domain of a thread
 unfoldable pub home : ℕ → List ℕ

@@ -3,14 +3,14 @@
 // place behind them; else nothing is put, and the place is the one asked for (`Placed`, specs/Placed.antt). What lies around them stays.
 #![tactic(auto)]
 
-ghost use Rattle.std.specs.Prelude.{◌≡◌, ◌+◌, ◌*◌, ◌<◌, ◌≤◌, ◌++◌, length, drop, if◌then◌else◌};
+ghost use Rattle.std.specs.Prelude.{◌≡◌, ◌+◌, ◌*◌, ◌<◌, ◌≤◌, ◌++◌, length, if◌then◌else◌};
 ghost use Rattle.text.specs.Text.{ascii, decimal};
-ghost use Rattle.lines.specs.Steps.{Piece};
+ghost use Rattle.lines.specs.Pens.{Writes};
 ghost use Rattle.words.specs.Placed.{Placed};
-ghost use Rattle.words.specs.Row.{Begins, Follows};
-ghost use Rattle.words.specs.Words.{before, nth, unknown, rank, operation, answer_name, address, size, labelled, field, unused, named, type as type-spec, role, access, rights, home, mode_number, mode, on_handle, on_thread, on_domain, field_a, other_b, field_b, other_c, field_c, field_d, fields, call_words, value_words, answer_words, widest_operation, widest_field, widest_call, widest_answer};
+ghost use Rattle.words.specs.Words.{nth, texts, longest, unknown, rank, operation, answer_name, address, size, told, labelled, unused, named, type as type-spec, role, access, rights, home, mode_number, mode, on_handle, on_thread, on_domain, field_a, other_b, field_b, other_c, field_c, field_d, fields, call_words, value_words, answer_words, widest_operation, widest_field, widest_call, widest_answer};
 
 use decoding::Call;
+use lines::Pen;
 
 // The widest words of a field, of a call (the operation, the caller, four fields), and of an answer.
 const FIELD: usize = 25;
@@ -19,8 +19,8 @@ pub const CALL: usize = 20 + 18 + 4 * FIELD;
 
 pub const ANSWER: usize = 24;
 
-// How many operations have names.
-const NAMED: u32 = 18;
+// How many operations have names: 0 to 4, and behind them 16 to 28.
+const NAMED: usize = 18;
 
 // No domain's number.
 const NONE: u32 = 255;
@@ -28,409 +28,335 @@ const NONE: u32 = 255;
 // The least mode below zero.
 const SIGN: u32 = 2147483648;
 
-fn put_word(text: &mut [u8], at: usize, word: &[u8]) -> usize
-    requires { at + length word.now ≤ length text.old }
-    ensures { Piece text.old at (length word.now) word.now result text.new }
-{
-    at + text::put_word(text, at, word)
+// How a number is told.
+#[derive(Clone, Copy)]
+enum Shape {
+    Decimal,
+    Address,
+    Size,
 }
 
-fn put_number(text: &mut [u8], at: usize, n: u32) -> usize
-    requires { at + 10 ≤ length text.old }
-    ensures { Piece text.old at 10 (decimal n) result text.new }
+fn put_told(pen: &mut Pen, shape: Shape, n: u32)
+    ensures { Writes pen.old pen.new 10 (told shape n) }
 {
-    at + text::put_number(text, at, n)
-}
-
-fn put_address(text: &mut [u8], at: usize, n: u32) -> usize
-    requires { at + 10 ≤ length text.old }
-    ensures { Piece text.old at 10 (address n) result text.new }
-{
-    let p = put_word(text, at, b"0x");
-    p + text::put_hex(text, p, 8, n)
-}
-
-fn put_size(text: &mut [u8], at: usize, n: u32) -> usize
-    requires { at + 10 ≤ length text.old }
-    ensures { Piece text.old at 10 (size n) result text.new }
-{
-    let p = put_word(text, at, b"0x");
-    p + text::put_hex(text, p, 1, n)
-}
-
-// Names stand in rows, with commas between them: a match with many arms is dear to prove, and a row costs the same however long it is.
-// The place of the next comma, or the end.
-fn name_end(names: &[u8], from: usize) -> usize
-    requires { from ≤ length names.now }
-    ensures { result ≡ from + before (drop from names.now) }
-{
-    let mut i = from;
-    while i < names.len() {
-        if names[i] == b',' {
-            return i;
+    match shape {
+        Shape::Decimal => pen.number(n),
+        Shape::Address => {
+            pen.word(b"0x");
+            pen.hex(8, n)
         }
-        i += 1;
+        Shape::Size => {
+            pen.word(b"0x");
+            pen.hex(1, n)
+        }
     }
-    i
 }
 
-fn next_name(names: &[u8], from: usize) -> usize
-    requires { from ≤ length names.now }
-    ensures { Follows names.now from result }
+fn put_nth(pen: &mut Pen, names: &[&[u8]], k: usize)
+    requires { k < length names.now }
+    ensures { Writes pen.old pen.new (length (nth k (texts names.now))) (nth k (texts names.now)) }
 {
-    let end = name_end(names, from);
-    if end < names.len() {
-        return end + 1;
-    }
-    end
+    pen.word(names[k])
 }
 
-fn nth_name(names: &[u8], k: u32) -> usize
-    ensures { Begins names.now k result }
+fn put_unknown(pen: &mut Pen, op: u32)
+    ensures { Writes pen.old pen.new widest_operation (unknown op) }
 {
-    let mut at: usize = 0;
-    let mut left = k;
-    while 0 < left {
-        at = next_name(names, at);
-        left -= 1;
-    }
-    at
+    pen.word(b"operation ");
+    pen.number(op)
 }
 
-fn put_nth(text: &mut [u8], at: usize, names: &[u8], k: u32) -> usize
-    requires { at + length (nth k names.now) ≤ length text.old }
-    ensures { Piece text.old at (length (nth k names.now)) (nth k names.now) result text.new }
-{
-    let from = nth_name(names, k);
-    let end = name_end(names, from);
-    put_word(text, at, &names[from..end])
-}
-
-fn put_unknown(text: &mut [u8], at: usize, op: u32) -> usize
-    requires { at + widest_operation ≤ length text.old }
-    ensures { Piece text.old at widest_operation (unknown op) result text.new }
-{
-    let p = put_word(text, at, b"operation ");
-    put_number(text, p, op)
-}
-
-fn rank_of(op: u32) -> u32
+// Where an operation stands among the names; behind them all it has none.
+#[tactic(auto, unfolding(crate::specs::Words::rank))]
+fn rank_of(op: u32) -> usize
     ensures { result ≡ rank op }
 {
-    if op < 5 {
-        return op;
+    match op {
+        0..=4 => op as usize,
+        5..=15 => NAMED,
+        _ => op as usize - 11,
     }
-    if op < 16 {
-        return NAMED;
-    }
-    op - 11
 }
 
-fn put_operation(text: &mut [u8], at: usize, op: u32) -> usize
-    requires { at + widest_operation ≤ length text.old }
-    ensures { Piece text.old at widest_operation (operation op) result text.new }
+fn put_operation(pen: &mut Pen, op: u32)
+    ensures { Writes pen.old pen.new widest_operation (operation op) }
 {
+    const OPERATIONS: [&[u8]; NAMED] = [
+        b"validate",
+        b"grant",
+        b"release",
+        b"memory check",
+        b"exit",
+        b"create object",
+        b"delete object",
+        b"revoke",
+        b"init",
+        b"uninit",
+        b"recycle",
+        b"make public",
+        b"create thread",
+        b"end thread",
+        b"inherit",
+        b"assign",
+        b"add partition",
+        b"remove partition",
+    ];
     let k = rank_of(op);
     if k < NAMED {
-        return put_nth(
-            text,
-            at,
-            b"validate,grant,release,memory check,exit,create object,delete object,revoke,init,uninit,recycle,make public,create thread,end thread,inherit,assign,add partition,remove partition",
-            k,
-        );
+        return put_nth(pen, &OPERATIONS, k);
     }
-    put_unknown(text, at, op)
+    put_unknown(pen, op)
 }
 
-fn put_name(text: &mut [u8], at: usize, code: u32) -> usize
-    requires { at + 10 ≤ length text.old }
-    ensures { Piece text.old at 10 (answer_name code) result text.new }
+fn put_name(pen: &mut Pen, code: u32)
+    ensures { Writes pen.old pen.new 10 (answer_name code) }
 {
-    if code < 13 {
-        return put_nth(
-            text,
-            at,
-            b"OK,EINVAL,EPERM,EBADF,EADDRINUSE,ENOSPC,ENOENT,SHORT,MAGIC,VALUE,NOPLAN,ROOM,DIFFERS",
-            code,
-        );
+    const ANSWERS: [&[u8]; 13] = [
+        b"OK",
+        b"EINVAL",
+        b"EPERM",
+        b"EBADF",
+        b"EADDRINUSE",
+        b"ENOSPC",
+        b"ENOENT",
+        b"SHORT",
+        b"MAGIC",
+        b"VALUE",
+        b"NOPLAN",
+        b"ROOM",
+        b"DIFFERS",
+    ];
+    let k = code as usize;
+    if k < ANSWERS.len() {
+        return put_nth(pen, &ANSWERS, k);
     }
-    put_number(text, at, code)
+    pen.number(code)
 }
 
-fn put_label(text: &mut [u8], at: usize, name: &[u8]) -> usize
-    requires { (length name.now ≤ 10) × (at + 13 ≤ length text.old) }
-    ensures { Piece text.old at 13 (ascii ", " ++ name.now ++ ascii " ") result text.new }
+fn put_field(pen: &mut Pen, name: &[u8], shape: Shape, n: u32)
+    requires { length name.now ≤ 10 }
+    ensures { Writes pen.old pen.new widest_field (labelled name.now (told shape n)) }
 {
-    let p = put_word(text, at, b", ");
-    let q = put_word(text, p, name);
-    put_word(text, q, b" ")
+    pen.word(b", ");
+    pen.word(name);
+    pen.word(b" ");
+    put_told(pen, shape, n)
 }
 
-fn put_field(text: &mut [u8], at: usize, name: &[u8], n: u32) -> usize
-    requires { (length name.now ≤ 10) × (at + widest_field ≤ length text.old) }
-    ensures { Piece text.old at widest_field (field name.now n) result text.new }
-{
-    let p = put_label(text, at, name);
-    put_number(text, p, n)
-}
-
-// A field that is an address, and one that is a length.
-fn put_place(text: &mut [u8], at: usize, name: &[u8], n: u32) -> usize
-    requires { (length name.now ≤ 10) × (at + widest_field ≤ length text.old) }
-    ensures { Piece text.old at widest_field (labelled name.now (address n)) result text.new }
-{
-    let p = put_label(text, at, name);
-    put_address(text, p, n)
-}
-
-fn put_extent(text: &mut [u8], at: usize, name: &[u8], n: u32) -> usize
-    requires { (length name.now ≤ 10) × (at + widest_field ≤ length text.old) }
-    ensures { Piece text.old at widest_field (labelled name.now (size n)) result text.new }
-{
-    let p = put_label(text, at, name);
-    put_size(text, p, n)
-}
-
-fn put_unused(text: &mut [u8], at: usize, name: &[u8], n: u32) -> usize
-    requires { (length name.now ≤ 10) × (at + widest_field ≤ length text.old) }
-    ensures { Piece text.old at widest_field (unused name.now n) result text.new }
+fn put_unused(pen: &mut Pen, name: &[u8], n: u32)
+    requires { length name.now ≤ 10 }
+    ensures { Writes pen.old pen.new widest_field (unused name.now n) }
 {
     if n == 0 {
-        return at;
+        return;
     }
-    put_field(text, at, name, n)
+    put_field(pen, name, Shape::Decimal, n)
 }
 
-fn put_named(
-    text: &mut [u8],
-    at: usize,
-    front: &[u8],
-    names: &[u8],
-    many: u32,
-    name: &[u8],
-    n: u32,
-) -> usize
-    requires { (length front.now + length (nth n names.now) ≤ widest_field) × ((length name.now ≤ 10) × (at + widest_field ≤ length text.old)) }
-    ensures { Piece text.old at widest_field (named front.now names.now many name.now n) result text.new }
+fn put_named(pen: &mut Pen, front: &[u8], names: &[&[u8]], name: &[u8], n: u32)
+    requires { (length front.now + longest (texts names.now) ≤ widest_field) × (length name.now ≤ 10) }
+    ensures { Writes pen.old pen.new widest_field (named front.now (texts names.now) name.now n) }
 {
-    if n < many {
-        let p = put_word(text, at, front);
-        return put_nth(text, p, names, n);
+    let k = n as usize;
+    if k < names.len() {
+        pen.word(front);
+        return put_nth(pen, names, k);
     }
-    put_field(text, at, name, n)
+    put_field(pen, name, Shape::Decimal, n)
 }
 
-fn put_type(text: &mut [u8], at: usize, n: u32) -> usize
-    requires { at + widest_field ≤ length text.old }
-    ensures { Piece text.old at widest_field (type-spec n) result text.new }
+fn put_type(pen: &mut Pen, n: u32)
+    ensures { Writes pen.old pen.new widest_field (type-spec n) }
 {
-    put_named(
-        text,
-        at,
-        b", type ",
-        b"Any,Thread,Sem,Mutex,CondVar,MsgQ,Stack,Pipe,Timer,Event,MemSlab,Fifo,Lifo,SysMutex,Futex,Mbox",
-        16,
-        b"type",
-        n,
-    )
+    const TYPES: [&[u8]; 16] = [
+        b"Any",
+        b"Thread",
+        b"Sem",
+        b"Mutex",
+        b"CondVar",
+        b"MsgQ",
+        b"Stack",
+        b"Pipe",
+        b"Timer",
+        b"Event",
+        b"MemSlab",
+        b"Fifo",
+        b"Lifo",
+        b"SysMutex",
+        b"Futex",
+        b"Mbox",
+    ];
+    put_named(pen, b", type ", &TYPES, b"type", n)
 }
 
-fn put_role(text: &mut [u8], at: usize, n: u32) -> usize
-    requires { at + widest_field ≤ length text.old }
-    ensures { Piece text.old at widest_field (role n) result text.new }
+fn put_role(pen: &mut Pen, n: u32)
+    ensures { Writes pen.old pen.new widest_field (role n) }
 {
-    put_named(text, at, b", as ", b"user,supervisor", 2, b"supervisor", n)
+    const ROLES: [&[u8]; 2] = [b"user", b"supervisor"];
+    put_named(pen, b", as ", &ROLES, b"supervisor", n)
 }
 
-fn put_access(text: &mut [u8], at: usize, n: u32) -> usize
-    requires { at + widest_field ≤ length text.old }
-    ensures { Piece text.old at widest_field (access n) result text.new }
+fn put_access(pen: &mut Pen, n: u32)
+    ensures { Writes pen.old pen.new widest_field (access n) }
 {
-    put_named(text, at, b", ", b"read,write", 2, b"access", n)
+    const ACCESSES: [&[u8]; 2] = [b"read", b"write"];
+    put_named(pen, b", ", &ACCESSES, b"access", n)
 }
 
-fn put_rights(text: &mut [u8], at: usize, n: u32) -> usize
-    requires { at + widest_field ≤ length text.old }
-    ensures { Piece text.old at widest_field (rights n) result text.new }
+fn put_rights(pen: &mut Pen, n: u32)
+    ensures { Writes pen.old pen.new widest_field (rights n) }
 {
-    put_named(
-        text,
-        at,
-        b", ",
-        b"attr 0,r--,attr 2,rw-,attr 4,r-x,attr 6,rwx",
-        8,
-        b"attr",
-        n,
-    )
+    // 1 read, 2 write, 4 execute.
+    const RIGHTS: [&[u8]; 8] = [
+        b"attr 0", b"r--", b"attr 2", b"rw-", b"attr 4", b"r-x", b"attr 6", b"rwx",
+    ];
+    put_named(pen, b", ", &RIGHTS, b"attr", n)
 }
 
-fn put_home(text: &mut [u8], at: usize, n: u32) -> usize
-    requires { at + widest_field ≤ length text.old }
-    ensures { Piece text.old at widest_field (home n) result text.new }
+fn put_home(pen: &mut Pen, n: u32)
+    ensures { Writes pen.old pen.new widest_field (home n) }
 {
     if n == NONE {
-        return put_word(text, at, b", no domain");
+        return pen.word(b", no domain");
     }
-    put_field(text, at, b"domain", n)
+    put_field(pen, b"domain", Shape::Decimal, n)
 }
 
 // A mode has a sign: the upper half of the numbers are those below zero.
-fn put_mode_number(text: &mut [u8], at: usize, n: u32) -> usize
-    requires { at + widest_field ≤ length text.old }
-    ensures { Piece text.old at widest_field (mode_number n) result text.new }
+fn put_mode_number(pen: &mut Pen, n: u32)
+    ensures { Writes pen.old pen.new widest_field (mode_number n) }
 {
     if n < SIGN {
-        return put_field(text, at, b"mode", n);
+        return put_field(pen, b"mode", Shape::Decimal, n);
     }
-    let p = put_word(text, at, b", mode -");
-    put_number(text, p, u32::MAX - n + 1)
+    pen.word(b", mode -");
+    pen.number(u32::MAX - n + 1)
 }
 
-fn put_mode(text: &mut [u8], at: usize, n: u32) -> usize
-    requires { at + widest_field ≤ length text.old }
-    ensures { Piece text.old at widest_field (mode n) result text.new }
+fn put_mode(pen: &mut Pen, n: u32)
+    ensures { Writes pen.old pen.new widest_field (mode n) }
 {
-    let k = std::num::wrapping_add_u32(n, 1);
-    if k < 3 {
-        let p = put_word(text, at, b", ");
-        return put_nth(
-            text,
-            p,
-            b"must not be initialised,must be initialised,initialised or not",
-            k,
-        );
+    // The modes -1, 0 and 1.
+    const MODES: [&[u8]; 3] = [
+        b"must not be initialised",
+        b"must be initialised",
+        b"initialised or not",
+    ];
+    let k = n.wrapping_add(1) as usize;
+    if k < MODES.len() {
+        pen.word(b", ");
+        return put_nth(pen, &MODES, k);
     }
-    put_mode_number(text, at, n)
+    put_mode_number(pen, n)
 }
 
+#[tactic(auto, unfolding(crate::specs::Words::on_handle))]
 fn on_handle(op: u32) -> bool
     ensures { result ≡ on_handle op }
 {
-    if op < 3 {
-        return true;
-    }
-    if op < 16 {
-        return false;
-    }
-    op < 24
+    matches!(op, 0..=2 | 16..=23)
 }
 
+#[tactic(auto, unfolding(crate::specs::Words::on_thread))]
 fn on_thread(op: u32) -> bool
     ensures { result ≡ on_thread op }
 {
-    if op == 23 {
-        return true;
-    }
-    if op == 24 {
-        return true;
-    }
-    op == 26
+    matches!(op, 23 | 24 | 26)
 }
 
+#[tactic(auto, unfolding(crate::specs::Words::on_domain))]
 fn on_domain(op: u32) -> bool
     ensures { result ≡ on_domain op }
 {
-    if op < 27 {
-        return false;
-    }
-    op < 29
+    matches!(op, 27 | 28)
 }
 
-fn put_a(text: &mut [u8], at: usize, op: u32, n: u32) -> usize
-    requires { at + widest_field ≤ length text.old }
-    ensures { Piece text.old at widest_field (field_a op n) result text.new }
+fn put_a(pen: &mut Pen, op: u32, n: u32)
+    ensures { Writes pen.old pen.new widest_field (field_a op n) }
 {
     if on_handle(op) {
-        return put_field(text, at, b"handle", n);
+        return put_field(pen, b"handle", Shape::Decimal, n);
     }
     if on_domain(op) {
-        return put_field(text, at, b"domain", n);
+        return put_field(pen, b"domain", Shape::Decimal, n);
     }
-    put_unused(text, at, b"unused a", n)
+    put_unused(pen, b"unused a", n)
 }
 
 // The fields b and c in two functions each: what operations share, by a test, and what is one operation's own.
-fn put_other_b(text: &mut [u8], at: usize, op: u32, n: u32) -> usize
-    requires { at + widest_field ≤ length text.old }
-    ensures { Piece text.old at widest_field (other_b op n) result text.new }
+fn put_other_b(pen: &mut Pen, op: u32, n: u32)
+    ensures { Writes pen.old pen.new widest_field (other_b op n) }
 {
     if on_thread(op) {
-        return put_field(text, at, b"thread", n);
+        return put_field(pen, b"thread", Shape::Decimal, n);
     }
     if on_domain(op) {
-        return put_place(text, at, b"start", n);
+        return put_field(pen, b"start", Shape::Address, n);
     }
-    put_unused(text, at, b"unused b", n)
+    put_unused(pen, b"unused b", n)
 }
 
-fn put_b(text: &mut [u8], at: usize, op: u32, n: u32) -> usize
-    requires { at + widest_field ≤ length text.old }
-    ensures { Piece text.old at widest_field (field_b op n) result text.new }
+fn put_b(pen: &mut Pen, op: u32, n: u32)
+    ensures { Writes pen.old pen.new widest_field (field_b op n) }
 {
     match op {
-        0 => put_type(text, at, n),
-        1 => put_field(text, at, b"to", n),
-        3 => put_place(text, at, b"address", n),
-        16 => put_type(text, at, n),
-        18 => put_field(text, at, b"from", n),
-        25 => put_field(text, at, b"parent", n),
-        _ => put_other_b(text, at, op, n),
+        0 | 16 => put_type(pen, n),
+        1 => put_field(pen, b"to", Shape::Decimal, n),
+        3 => put_field(pen, b"address", Shape::Address, n),
+        18 => put_field(pen, b"from", Shape::Decimal, n),
+        25 => put_field(pen, b"parent", Shape::Decimal, n),
+        _ => put_other_b(pen, op, n),
     }
 }
 
-fn put_other_c(text: &mut [u8], at: usize, op: u32, n: u32) -> usize
-    requires { at + widest_field ≤ length text.old }
-    ensures { Piece text.old at widest_field (other_c op n) result text.new }
+fn put_other_c(pen: &mut Pen, op: u32, n: u32)
+    ensures { Writes pen.old pen.new widest_field (other_c op n) }
 {
     if on_domain(op) {
-        return put_extent(text, at, b"size", n);
+        return put_field(pen, b"size", Shape::Size, n);
     }
-    put_unused(text, at, b"unused c", n)
+    put_unused(pen, b"unused c", n)
 }
 
-fn put_c(text: &mut [u8], at: usize, op: u32, n: u32) -> usize
-    requires { at + widest_field ≤ length text.old }
-    ensures { Piece text.old at widest_field (field_c op n) result text.new }
+fn put_c(pen: &mut Pen, op: u32, n: u32)
+    ensures { Writes pen.old pen.new widest_field (field_c op n) }
 {
     match op {
-        0 => put_mode(text, at, n),
-        3 => put_extent(text, at, b"length", n),
-        23 => put_role(text, at, n),
-        25 => put_field(text, at, b"child", n),
-        26 => put_home(text, at, n),
-        _ => put_other_c(text, at, op, n),
+        0 => put_mode(pen, n),
+        3 => put_field(pen, b"length", Shape::Size, n),
+        23 => put_role(pen, n),
+        25 => put_field(pen, b"child", Shape::Decimal, n),
+        26 => put_home(pen, n),
+        _ => put_other_c(pen, op, n),
     }
 }
 
-fn put_d(text: &mut [u8], at: usize, op: u32, n: u32) -> usize
-    requires { at + widest_field ≤ length text.old }
-    ensures { Piece text.old at widest_field (field_d op n) result text.new }
+fn put_d(pen: &mut Pen, op: u32, n: u32)
+    ensures { Writes pen.old pen.new widest_field (field_d op n) }
 {
     match op {
-        3 => put_access(text, at, n),
-        27 => put_rights(text, at, n),
-        _ => put_unused(text, at, b"unused d", n),
+        3 => put_access(pen, n),
+        27 => put_rights(pen, n),
+        _ => put_unused(pen, b"unused d", n),
     }
 }
 
-fn put_fields(text: &mut [u8], at: usize, c: Call) -> usize
-    requires { at + 4 * widest_field ≤ length text.old }
-    ensures { Piece text.old at (4 * widest_field) (fields c) result text.new }
+fn put_fields(pen: &mut Pen, c: Call)
+    ensures { Writes pen.old pen.new (4 * widest_field) (fields c) }
 {
-    let p = put_a(text, at, c.op, c.a);
-    let q = put_b(text, p, c.op, c.b);
-    let s = put_c(text, q, c.op, c.c);
-    put_d(text, s, c.op, c.d)
+    put_a(pen, c.op, c.a);
+    put_b(pen, c.op, c.b);
+    put_c(pen, c.op, c.c);
+    put_d(pen, c.op, c.d)
 }
 
-fn spell_call(text: &mut [u8], at: usize, c: Call) -> usize
-    requires { at + widest_call ≤ length text.old }
-    ensures { Piece text.old at widest_call (call_words c) result text.new }
+fn spell_call(pen: &mut Pen, c: Call)
+    ensures { Writes pen.old pen.new widest_call (call_words c) }
 {
-    let p = put_operation(text, at, c.op);
-    let q = put_word(text, p, b" caller ");
-    let s = put_number(text, q, c.caller);
-    put_fields(text, s, c)
+    put_operation(pen, c.op);
+    pen.word(b" caller ");
+    pen.number(c.caller);
+    put_fields(pen, c)
 }
 
 pub fn put_call(text: &mut [u8], at: usize, c: Call) -> usize
@@ -439,43 +365,38 @@ pub fn put_call(text: &mut [u8], at: usize, c: Call) -> usize
     if !text::has_room(text, at, CALL) {
         return at;
     }
-    spell_call(text, at, c)
-}
-
-fn put_plain(text: &mut [u8], at: usize, place: bool, value: u32) -> usize
-    requires { at + 10 ≤ length text.old }
-    ensures { Piece text.old at 10 (if place then address value else decimal value) result text.new }
-{
-    if place {
-        return put_address(text, at, value);
-    }
-    put_number(text, at, value)
-}
-
-fn put_value(text: &mut [u8], at: usize, place: bool, value: u32) -> usize
-    requires { at + 11 ≤ length text.old }
-    ensures { Piece text.old at 11 (value_words place value) result text.new }
-{
-    let p = put_plain(text, at, place, value);
-    put_word(text, p, b"\n")
-}
-
-fn spell_answer(text: &mut [u8], at: usize, place: bool, code: u32, value: u32) -> usize
-    requires { at + widest_answer ≤ length text.old }
-    ensures { Piece text.old at widest_answer (answer_words place code value) result text.new }
-{
-    let p = put_word(text, at, b": ");
-    let q = put_name(text, p, code);
-    let s = put_word(text, q, b" ");
-    put_value(text, s, place, value)
+    let mut pen = Pen { text, at };
+    spell_call(&mut pen, c);
+    pen.at
 }
 
 // The value is a number, or an address.
+fn put_value(pen: &mut Pen, place: bool, value: u32)
+    ensures { Writes pen.old pen.new 10 (if place then address value else decimal value) }
+{
+    if place {
+        return put_told(pen, Shape::Address, value);
+    }
+    put_told(pen, Shape::Decimal, value)
+}
+
+fn spell_answer(pen: &mut Pen, place: bool, code: u32, value: u32)
+    ensures { Writes pen.old pen.new widest_answer (answer_words place code value) }
+{
+    pen.word(b": ");
+    put_name(pen, code);
+    pen.word(b" ");
+    put_value(pen, place, value);
+    pen.word(b"\n")
+}
+
 pub fn put_answer(text: &mut [u8], at: usize, place: bool, code: u32, value: u32) -> usize
     ensures { Placed widest_answer text.old at (answer_words place code value) result text.new }
 {
     if !text::has_room(text, at, ANSWER) {
         return at;
     }
-    spell_answer(text, at, place, code, value)
+    let mut pen = Pen { text, at };
+    spell_answer(&mut pen, place, code, value);
+    pen.at
 }

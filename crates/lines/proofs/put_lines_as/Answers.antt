@@ -5,8 +5,8 @@ use Rattle.lines.proofs.put_lines_as.Goals as goal
 pub returns-then-out-n : goal.returns-then-out-n
 returns-then-out-n g c = few _ _ _ _ _ c.if-out-n.true
 
-pub returns-then-text-LONGEST : goal.returns-then-text-LONGEST
-returns-then-text-LONGEST g c = small _ _ _ _ _ c.if-out-n.false (no_room_for g.met.F.Form.some_bytes (rw c.LONGEST.ensures at c.if-text-LONGEST.true))
+pub returns-then-text-longest : goal.returns-then-text-longest
+returns-then-text-longest g c = small _ _ _ _ _ c.if-out-n.false (no_room_for g.met.F.Form.some_bytes (rw c.longest.ensures at c.if-text-longest.true))
 
 pub returns : goal.returns
-returns g c = all _ _ _ _ _ _ _ c.if-out-n.false (room_for g.met.F.Form.some_bytes (rw c.LONGEST.ensures at c.if-text-LONGEST.false)) c.put_all.ensures
+returns g c = all _ _ _ _ _ _ _ c.if-out-n.false (room_for g.met.F.Form.some_bytes (rw c.longest.ensures at c.if-text-longest.false)) c.put_all.ensures

@@ -1,19 +1,14 @@
 use Rattle.answer.specs.Tests.{via}
-use Rattle.lines.specs.Steps.{known_as}
-use Rattle.words.specs.Words.{field_a}
-use Rattle.std.proofs.Common.{rules}
-use Rattle.words.proofs.on_domain.Reads as on-domain-reads
-use Rattle.words.proofs.on_handle.Reads as on-handle-reads
-use Rattle.words.proofs.put_field.Reads as put-field-reads
-use Rattle.words.proofs.put_unused.Reads as put-unused-reads
+use Rattle.lines.specs.Pens.{known_as}
+use Rattle.words.specs.Words.{field, field_a}
 use Rattle.words.proofs.put_a.Goals as goal
 
 pub returns-then-on_handle : goal.returns-then-on_handle
-unfolding field_a
+unfolding field_a field
 returns-then-on_handle c = known_as (rw (via c.on_handle.ensures c.if-on_handle.true)) c.put_field.ensures
 
 pub returns-then-on_domain : goal.returns-then-on_domain
-unfolding field_a
+unfolding field_a field
 returns-then-on_domain c = known_as (rw (via c.on_handle.ensures c.if-on_handle.false, via c.on_domain.ensures c.if-on_domain.true)) c.put_field-then-on_domain.ensures
 
 pub returns : goal.returns

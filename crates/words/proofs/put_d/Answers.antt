@@ -1,10 +1,6 @@
 use Rattle.answer.specs.Tests.{tests}
-use Rattle.lines.specs.Steps.{known_as}
-use Rattle.words.specs.Words.{field_c, field_d}
-use Rattle.std.proofs.Common.{rules}
-use Rattle.words.proofs.put_access.Reads as put-access-reads
-use Rattle.words.proofs.put_rights.Reads as put-rights-reads
-use Rattle.words.proofs.put_unused.Reads as put-unused-reads
+use Rattle.lines.specs.Pens.{known_as}
+use Rattle.words.specs.Words.{field_d}
 use Rattle.words.proofs.put_d.Goals as goal
 
 pub returns-in-3 : goal.returns-in-3

@@ -1,10 +1,8 @@
-use Rattle.std.proofs.Common.{arith, rules}
-use Rattle.lines.specs.Steps.{◌then◌, loosely}
-use Rattle.words.specs.Words.{field, labelled, unknown, widest_field}
-use Rattle.words.proofs.put_label.Reads as put-label-reads
-use Rattle.words.proofs.put_number.Reads as put-number-reads
+use Rattle.std.proofs.Common.{arith}
+use Rattle.lines.specs.Pens.{loosely, ◌then◌}
+use Rattle.words.specs.Words.{labelled, widest_field}
 use Rattle.words.proofs.put_field.Goals as goal
 
 pub returns : goal.returns
-unfolding field labelled
-returns c = loosely widest_field (omega arith) (c.put_label-p.ensures then c.put_number.ensures)
+unfolding labelled
+returns c = loosely widest_field (omega arith) (c.word.ensures.with_room then c.word-2.ensures.with_room then c.word-3.ensures.with_room then c.put_told.ensures)

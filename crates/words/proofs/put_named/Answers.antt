@@ -1,16 +1,15 @@
-use Rattle.std.proofs.Common.{arith, rules}
-use Rattle.answer.specs.Tests.{tests}
-use Rattle.lines.specs.Steps.{known_as, loosely, ◌then◌}
-use Rattle.words.specs.Words.{named, widest_field}
-use Rattle.words.proofs.put_field.Reads as put-field-reads
-use Rattle.words.proofs.put_nth.Reads as put-nth-reads
-use Rattle.words.proofs.put_word.Reads as put-word-reads
+use Rattle.std.proofs.Common.{arith}
+use Rattle.lines.specs.Pens.{known_as, loosely, ◌then◌}
+use Rattle.words.specs.Words.{field, texts, widest_field}
+use Rattle.words.specs.Laws.{nth_most}
+use Rattle.words.proofs.Pieces.{is_named, is_numbered}
 use Rattle.words.proofs.put_named.Goals as goal
 
-pub returns-then-n-many : goal.returns-then-n-many
-unfolding named
-returns-then-n-many c = known_as (search tests) (loosely widest_field c.requires.0 (c.put_word-p.ensures then c.put_nth.ensures))
+pub returns-then-k-names : goal.returns-then-k-names
+returns-then-k-names c =
+    known_as (is_named _ _ _ _ c.if-k-names.true)
+    (loosely widest_field (omega (arith, nth_most c.args.n (texts c.args.names.now))) (c.word.ensures.with_room then c.put_nth.ensures))
 
 pub returns : goal.returns
-unfolding named
-returns c = known_as (search tests) c.put_field.ensures
+unfolding field
+returns c = known_as (is_numbered _ _ _ _ c.if-k-names.false) c.put_field.ensures

@@ -1,15 +1,11 @@
 use Rattle.answer.specs.Tests.{via}
-use Rattle.lines.specs.Steps.{known_as}
-use Rattle.words.specs.Words.{other_b, other_c}
-use Rattle.std.proofs.Common.{rules}
-use Rattle.words.proofs.on_domain.Reads as on-domain-reads
-use Rattle.words.proofs.put_extent.Reads as put-extent-reads
-use Rattle.words.proofs.put_unused.Reads as put-unused-reads
+use Rattle.lines.specs.Pens.{known_as}
+use Rattle.words.specs.Words.{other_c}
 use Rattle.words.proofs.put_other_c.Goals as goal
 
 pub returns-then-on_domain : goal.returns-then-on_domain
 unfolding other_c
-returns-then-on_domain c = known_as (rw (via c.on_domain.ensures c.if-on_domain.true)) c.put_extent.ensures
+returns-then-on_domain c = known_as (rw (via c.on_domain.ensures c.if-on_domain.true)) c.put_field.ensures
 
 pub returns : goal.returns
 unfolding other_c

@@ -1,13 +1,9 @@
-use Rattle.std.proofs.Common.{length, refl, le_refl, ap, ◌∙◌}
-use Rattle.std.proofs.Math.Seq.{length-sets}
-use Rattle.text.proofs.Laws.{part_set}
+use Rattle.std.proofs.Common.{le_refl, arith}
+use Rattle.lines.proofs.Laws.{put_exact, put_in_room, put_within}
 use Rattle.lines.proofs.Pen.word.Goals as goal
 
+pub overflow_add-self : goal.overflow_add-self
+overflow_add-self c = omega (arith, put_within _ _ _ _ _ c.put_word.ensures)
+
 pub returns : goal.returns
-returns c =
-    let text = part_set _ _ _ c.requires in
-    rw c.copy_from_slice.ensures.after (record {
-      same = refl;
-      kept = ap length text ∙ length-sets c.args.self.now.text.now c.args.self.now.at c.args.word.now;
-      piece = record { next = refl; text = text; bound = le_refl _ };
-    })
+returns c = record { exact = put_exact _ _ _ c.put_word.ensures; with_room = put_in_room _ _ _ c.put_word.ensures _ (le_refl _) c.put_word.auto.text }
