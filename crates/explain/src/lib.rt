@@ -19,7 +19,7 @@ const CALL: usize = 16;
 
 const CHECK: u8 = 3;
 
-// Lines are numbered by 32 bits.
+// Lines have numbers of 32 bits.
 const NUMBERS: usize = 1 << 32;
 
 // The longest line: its number with a colon and a space, a call, an answer.
@@ -59,12 +59,11 @@ fn part_of(log: &[u8], k: usize) -> &[u8]
     &rest[..rest.len().min(CALL)]
 }
 
-// The k-th line's number; behind the greatest it begins again at 0.
-fn number_of(first: u32, k: usize) -> u32
-    requires { k < 2 ^ 63 }
+// The number of the k-th line behind one; behind the greatest they begin again at 0.
+pub fn line_number(first: u32, k: usize) -> u32
     ensures { result ≡ number_at first k }
 {
-    ((first as usize + k) % NUMBERS) as u32
+    first.wrapping_add((k % NUMBERS) as u32)
 }
 
 // The parts of a log, the first of which has a number.
@@ -90,7 +89,7 @@ impl Form for Explained<'_> {
         ensures { Wrote pen.old pen.new longest_line (explained (number_at self.now.first k) (part_at self.now.log.now k) code value) }
     {
         let part = part_of(self.log, k);
-        pen.number(number_of(self.first, k));
+        pen.number(line_number(self.first, k));
         pen.word(b": ");
         put_part(pen, part);
         pen.at = words::put_answer(pen.text, pen.at, is_address(part, code), code, value);

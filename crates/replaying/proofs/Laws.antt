@@ -1,20 +1,19 @@
 -- From the promises of `run` and of the lines to that of a printed log; and what the functions below cite of numbers and parts.
-use Rattle.std.proofs.Common.{◌≡◌, ℕ, ◌+◌, ◌-◌, ◌*◌, ◌/◌, ◌%◌, ◌<◌, ◌≤◌, Bool, true, false, cond, not, ◌||◌, eqb, ltb, leb, ◌≢◌, List, [], ◌∷◌, ◌++◌, length, take, drop, sym, refl, ap, ◌∙◌, subst, zero-add, arith, ltb-false, le-ltb, lt-ltb, ne_eqb, leb-false, leb-true}
-use borrow.Author.Tests.{not-true, not-false}
+use Rattle.std.proofs.Common.{◌≡◌, ℕ, ◌*◌, ◌<◌, ◌≤◌, Bool, true, false, cond, Result, Ok, Err, is_ok, ◌||◌, ltb, leb, ◌≢◌, List, [], ◌∷◌, ◌++◌, length, sym, refl, ap, ◌∙◌, subst, arith, ltb-false, le-ltb, lt-ltb, leb-false, leb-true}
 use Rattle.answer.specs.Stores.{cat}
-use Rattle.lines.specs.declared.Put.{Put}
-use Rattle.text.specs.Text as Word
+use Rattle.answer.specs.declared.Code.{Code}
+use Rattle.answer.specs.declared.Code.TheVariants.{Value, Room}
 use Rattle.text.specs.Text.{ascii}
-use Rattle.words.specs.Placed.{Placed}
-use Rattle.words.specs.Words.{answer_words, widest_answer}
-use Rattle.words.specs.Laws.{fits, answer_most}
-use Rattle.lines.specs.Steps.{Piece, piece, loosely, all, ◌then◌}
-use Rattle.lines.specs.Lines.{line_at, Lines, lines_answer, text_after, put_with}
+use Rattle.words.specs.Words.{answer_words}
+use Rattle.lines.specs.Steps.{Piece, loosely, all}
+use Rattle.lines.specs.Lines.{line_at, Lines, lines_answer, text_after}
 use Rattle.tables.specs.State.{State, state_of, Fit, objects_back, threads_back, domains_back}
-use Rattle.rules.specs.Rules.{Sound, keeps_test}
+use Rattle.rules.specs.Rules.{keeps_test}
 use Rattle.rules.proofs.Rules.{test_sound}
 use Rattle.calls.specs.declared.Ran.{Ran}
 use Rattle.calls.specs.Calls.{parts_in, ran_to, answers_to, run_answer, ran_parts, ran_with, Run}
+use Rattle.replaying.specs.declared.Style.{Style}
+use Rattle.replaying.specs.declared.Style.TheVariants.{Numbers, Words}
 use Rattle.replaying.specs.Printing.{longest, line_in, lines_to, refusal_of, laid, print_answer, printed_parts, Printed}
 use Rattle.calls.proofs.Answers.{answers_length}
 use Rattle.replaying.proofs.Printed.{lines_are}
@@ -25,8 +24,8 @@ or_true false = refl
 
 -- lines that had room
 lines_done :
-    (line_of : ℕ → List ℕ) (most : ℕ) (out : List ℕ) (n : ℕ) {text after : List ℕ} {p : Put} → 2 * n ≤ length out → most * n ≤ length text →
-    Lines line_of most out n text p after → (p ≡ put_with 0 (length (cat line_of n))) × (after ≡ laid (cat line_of n) text)
+    (line_of : ℕ → List ℕ) (most : ℕ) (out : List ℕ) (n : ℕ) {text after : List ℕ} {p : Result ℕ Code} → 2 * n ≤ length out → most * n ≤ length text →
+    Lines line_of most out n text p after → (p ≡ Ok (length (cat line_of n))) × (after ≡ laid (cat line_of n) text)
 unfolding lines_answer text_after
 lines_done line_of most out n {text} g h l =
     let a = le-ltb (length out) (2 * n) g in
@@ -35,38 +34,35 @@ lines_done line_of most out n {text} g h l =
 
 -- ---- what a test says of the room
 
-pub longest_some : (words : Bool) → 0 < longest words
-longest_some true = omega arith
-longest_some false = omega arith
+pub longest_some : (style : Style) → 0 < longest style
+longest_some Numbers = omega arith
+longest_some Words = omega arith
 
-module _ (words : Bool) (log text : List ℕ) {r : Bool} {each : ℕ} (e : r ≡ leb (each * parts_in (length log)) (length text)) (l : each ≡ longest words) where
-  pub has_no_room : r ≡ false → length text < longest words * parts_in (length log)
+module _ (style : Style) (log text : List ℕ) {r : Bool} {each : ℕ} (e : r ≡ leb (each * parts_in (length log)) (length text)) (l : each ≡ longest style) where
+  pub has_no_room : r ≡ false → length text < longest style * parts_in (length log)
   has_no_room n = leb-false _ _ (rw l at (sym e ∙ n))
 
-  pub has_its_room : r ≡ true → longest words * parts_in (length log) ≤ length text
+  pub has_its_room : r ≡ true → longest style * parts_in (length log) ≤ length text
   has_its_room n = leb-true _ _ (rw l at (sym e ∙ n))
 
 -- ---- lines of either kind
 
-pub lines_as : {a b : Bool} (first : ℕ) (log out : List ℕ) (n : ℕ) {before after : List ℕ} {r : Put} → a ≡ b
+pub lines_as : {a b : Style} (first : ℕ) (log out : List ℕ) (n : ℕ) {before after : List ℕ} {r : Result ℕ Code} → a ≡ b
     → Lines (line_in b first log out) (longest b) out n before r after → Lines (line_in a first log out) (longest a) out n before r after
-lines_as first log out n {before} {after} {r} e l = subst (λ (w : Bool). Lines (line_in w first log out) (longest w) out n before r after) (sym e) l
+lines_as first log out n {before} {after} {r} e l = subst (λ (w : Style). Lines (line_in w first log out) (longest w) out n before r after) (sym e) l
 
-pub refusal_as : {a b : Bool} (code : ℕ) {before after : List ℕ} {r : Put} → a ≡ b
+pub refusal_as : {a b : Style} (code : ℕ) {before after : List ℕ} {r : Result ℕ Code} → a ≡ b
     → Lines (λ _. refusal_of b code) 30 (code ∷ 0 ∷ []) 1 before r after → Lines (λ _. refusal_of a code) 30 (code ∷ 0 ∷ []) 1 before r after
-refusal_as code {before} {after} {r} e l = subst (λ (w : Bool). Lines (λ _. refusal_of w code) 30 (code ∷ 0 ∷ []) 1 before r after) (sym e) l
+refusal_as code {before} {after} {r} e l = subst (λ (w : Style). Lines (λ _. refusal_of w code) 30 (code ∷ 0 ∷ []) 1 before r after) (sym e) l
 
-pub refusal_words : (code : ℕ) {t t₁ t₂ : List ℕ} {p r : ℕ} → 30 ≤ length t → length t₁ ≡ length t → Word.Put t 0 (ascii "image") p t₁
-    → Placed widest_answer t₁ p (answer_words false code 0) r t₂ → Lines (λ _. refusal_of true code) 30 (code ∷ 0 ∷ []) 1 t (put_with 0 r) t₂
+pub refusal_words : (code : ℕ) {t t' : List ℕ} {r : ℕ} → 30 ≤ length t → Piece t 0 29 (ascii "image" ++ answer_words false code 0) r t'
+    → Lines (λ _. refusal_of Words code) 30 (code ∷ 0 ∷ []) 1 t (Ok r) t'
 unfolding refusal_of cat
-refusal_words code {t} {t₁} {t₂} {p} {r} h k w a =
-    let image : Piece t 0 5 (ascii "image") p t₁ = rw zero-add at (piece t (ascii "image") t₁ 0 5 p (omega arith) (omega arith) w) in
-    let five : p ≡ 5 = image.next in
-    let whole : Piece t 0 29 (ascii "image" ++ answer_words false code 0) r t₂ = image then fits widest_answer (answer_most false code 0) (omega arith) a in
-    all (λ _. refusal_of true code) 30 (code ∷ 0 ∷ []) 1 t t₂ r (omega arith) (omega arith) (loosely 30 (omega arith) whole)
+refusal_words code {t} {t'} {r} h p =
+    all (λ _. refusal_of Words code) 30 (code ∷ 0 ∷ []) 1 t t' r (omega arith) (omega arith) (loosely 30 (omega arith) p)
 
-pub refusal_line : (code : ℕ) {t t' : List ℕ} {r : Put} → 30 ≤ length t → Lines (line_at (code ∷ 0 ∷ [])) 22 (code ∷ 0 ∷ []) 1 t r t'
-    → Lines (λ _. refusal_of false code) 30 (code ∷ 0 ∷ []) 1 t r t'
+pub refusal_line : (code : ℕ) {t t' : List ℕ} {r : Result ℕ Code} → 30 ≤ length t → Lines (line_at (code ∷ 0 ∷ [])) 22 (code ∷ 0 ∷ []) 1 t r t'
+    → Lines (λ _. refusal_of Numbers code) 30 (code ∷ 0 ∷ []) 1 t r t'
 unfolding lines_answer text_after refusal_of cat
 refusal_line code {t} h l =
     let d = lines_done (line_at (code ∷ 0 ∷ [])) 22 (code ∷ 0 ∷ []) 1 (omega arith) (omega arith) l in
@@ -74,17 +70,17 @@ refusal_line code {t} h l =
     record { answer = d.0 ∙ rw e; text = d.1 ∙ rw e }
 
 -- no parts, no lines
-no_lines : (words : Bool) (first : ℕ) (s : State) (log : List ℕ) → lines_to words first s log 0 ≡ []
+no_lines : (style : Style) (first : ℕ) (s : State) (log : List ℕ) → lines_to style first s log 0 ≡ []
 unfolding lines_to cat
-no_lines words first s log = refl
+no_lines style first s log = refl
 
-module _ (words : Bool) (first : ℕ) (os ts ss log out : List ℕ) where
+module _ (style : Style) (first : ℕ) (os ts ss log out : List ℕ) where
   -- nothing was done
-  module _ (text : List ℕ) (p : Put) (a : p ≡ print_answer words first os ts ss log out (length text)) (n : p.code ≢ 0) where
-    none : printed_parts words first os ts ss log out (length text) ≡ 0
-    none = rw (ap (λ (x : Put). x.code) (sym a), ne_eqb p.code 0 n)
+  module _ (text : List ℕ) (p : Result ℕ Code) (a : p ≡ print_answer style first os ts ss log out (length text)) (n : is_ok p ≡ false) where
+    none : printed_parts style first os ts ss log out (length text) ≡ 0
+    none = let z : is_ok (print_answer style first os ts ss log out (length text)) ≡ false = ap is_ok (sym a) ∙ n in rw z
 
-    untouched : (b : Bool) → keeps_test os ts ss ≡ b → Printed words first os ts ss log out text p os ts ss out text
+    untouched : (b : Bool) → keeps_test os ts ss ≡ b → Printed style first os ts ss log out text p os ts ss out text
     unfolding ran_to answers_to
     untouched false e =
         record {
@@ -107,53 +103,51 @@ module _ (words : Bool) (first : ℕ) (os ts ss log out : List ℕ) where
         }
 
   -- too little room for the lines
-  pub print_without : (text : List ℕ) (p : Put) → length text < longest words * parts_in (length log)
-      → p ≡ record { code = cond (keeps_test os ts ss) 11 9; bytes = 0 } → Printed words first os ts ss log out text p os ts ss out text
+  pub print_without : (text : List ℕ) (c : Code) → length text < longest style * parts_in (length log)
+      → c ≡ cond (keeps_test os ts ss) Room Value → Printed style first os ts ss log out text (Err c) os ts ss out text
   unfolding print_answer
-  print_without text p h e = go (keeps_test os ts ss) refl
+  print_without text c h e = go (keeps_test os ts ss) refl
     where
-      go : (b : Bool) → keeps_test os ts ss ≡ b → Printed words first os ts ss log out text p os ts ss out text
-      go true k =
-          let c : p.code ≡ 11 = ap (λ (x : Put). x.code) e ∙ rw k in
-          untouched text p (e ∙ rw (k, lt-ltb _ _ h, or_true _)) (λ z. omega arith) true k
-      go false k =
-          let c : p.code ≡ 9 = ap (λ (x : Put). x.code) e ∙ rw k in
-          untouched text p (e ∙ rw k) (λ z. omega arith) false k
+      go : (b : Bool) → keeps_test os ts ss ≡ b → Printed style first os ts ss log out text (Err c) os ts ss out text
+      go true k = untouched text (Err c) (ap Err e ∙ rw (k, lt-ltb _ _ h, or_true _)) refl true k
+      go false k = untouched text (Err c) (ap Err e ∙ rw k) refl false k
 
   -- the lines have room: it goes as the run goes
-  module _ (text : List ℕ) (h : longest words * parts_in (length log) ≤ length text) where
-    -- both refuse with the same code, or both do it
+  module _ (text : List ℕ) (h : longest style * parts_in (length log) ≤ length text) where
+    -- both refuse for the same reason, or both do it
     data Way : Type 0 where
-      refuses : (n : ℕ) → n ≢ 0 → run_answer os ts ss log out ≡ ran_with n 0 → print_answer words first os ts ss log out (length text) ≡ put_with n 0 → Way
+      unsound : run_answer os ts ss log out ≡ ran_with 9 0 → print_answer style first os ts ss log out (length text) ≡ Err Value → Way
+      small : run_answer os ts ss log out ≡ ran_with 11 0 → print_answer style first os ts ss log out (length text) ≡ Err Room → Way
       does :
           2 * parts_in (length log) ≤ length out → run_answer os ts ss log out ≡ ran_with 0 (parts_in (length log)) →
-          print_answer words first os ts ss log out (length text) ≡ put_with 0 (length (lines_to words first (state_of os ts ss) log (parts_in (length log)))) → Way
+          print_answer style first os ts ss log out (length text) ≡ Ok (length (lines_to style first (state_of os ts ss) log (parts_in (length log)))) → Way
 
     way : Way
     unfolding print_answer run_answer
     way = go (keeps_test os ts ss) (ltb (length out) (2 * parts_in (length log))) refl refl
       where
         go : (a b : Bool) → keeps_test os ts ss ≡ a → ltb (length out) (2 * parts_in (length log)) ≡ b → Way
-        go true true e f = refuses 11 (λ z. omega arith) (rw (e, f)) (rw (e, f))
+        go true true e f = small (rw (e, f)) (rw (e, f))
         go true false e f = does (ltb-false _ _ f) (rw (e, f)) (rw (e, f, le-ltb _ _ h))
-        go false b e f = refuses 9 (λ z. omega arith) (rw e) (rw e)
+        go false b e f = unsound (rw e) (rw e)
 
-    same_parts : printed_parts words first os ts ss log out (length text) ≡ ran_parts os ts ss log out
+    same_parts : printed_parts style first os ts ss log out (length text) ≡ ran_parts os ts ss log out
     same_parts = go way
       where
-        parts : Put → ℕ
-        parts p = cond (eqb p.code 0) (parts_in (length log)) 0
+        parts : Result ℕ Code → ℕ
+        parts p = cond (is_ok p) (parts_in (length log)) 0
 
-        go : Way → printed_parts words first os ts ss log out (length text) ≡ ran_parts os ts ss log out
-        go (refuses n m e f) = ap parts f ∙ rw (ne_eqb n 0 m) (sym (ap (λ (x : Ran). x.answers) e))
+        go : Way → printed_parts style first os ts ss log out (length text) ≡ ran_parts os ts ss log out
+        go (unsound e f) = ap parts f ∙ sym (ap (λ (x : Ran). x.answers) e)
+        go (small e f) = ap parts f ∙ sym (ap (λ (x : Ran). x.answers) e)
         go (does m e f) = ap parts f ∙ sym (ap (λ (x : Ran). x.answers) e)
 
     module _ {r : Ran} {os' ts' ss' out' : List ℕ} (q : Run os ts ss log out r os' ts' ss' out') where
       -- the tables and the numbers are the run's
       as_run :
-          {p : Put} {after : List ℕ} → p ≡ print_answer words first os ts ss log out (length text) →
-          after ≡ laid (lines_to words first (state_of os ts ss) log (ran_parts os ts ss log out)) text →
-          Printed words first os ts ss log out text p os' ts' ss' out' after
+          {p : Result ℕ Code} {after : List ℕ} → p ≡ print_answer style first os ts ss log out (length text) →
+          after ≡ laid (lines_to style first (state_of os ts ss) log (ran_parts os ts ss log out)) text →
+          Printed style first os ts ss log out text p os' ts' ss' out' after
       as_run a t =
           record {
             answer = a;
@@ -165,41 +159,44 @@ module _ (words : Bool) (first : ℕ) (os ts ss log out : List ℕ) where
           }
 
       -- the run was refused
-      pub print_refused : r.code ≢ 0 → Printed words first os ts ss log out text (put_with r.code 0) os' ts' ss' out' text
-      print_refused n = go way
+      pub print_refused :
+          {p : Result ℕ Code} → r.code ≢ 0 → (r.code ≡ 9 → p ≡ Err Value) → (r.code ≡ 11 → p ≡ Err Room) → Printed style first os ts ss log out text p os' ts' ss' out' text
+      print_refused {p} n v m = go way
         where
-          go : Way → Printed words first os ts ss log out text (put_with r.code 0) os' ts' ss' out' text
-          go (refuses m z e f) = as_run (ap (λ (x : Ran). put_with x.code 0) (q.answer ∙ e) ∙ sym f) (rw (ap (λ (x : Ran). x.answers) e, no_lines))
+          go : Way → Printed style first os ts ss log out text p os' ts' ss' out' text
+          go (unsound e f) = as_run (v (ap (λ (x : Ran). x.code) (q.answer ∙ e)) ∙ sym f) (rw (ap (λ (x : Ran). x.answers) e, no_lines))
+          go (small e f) = as_run (m (ap (λ (x : Ran). x.code) (q.answer ∙ e)) ∙ sym f) (rw (ap (λ (x : Ran). x.answers) e, no_lines))
           go (does m e f) = absurd (n (ap (λ (x : Ran). x.code) (q.answer ∙ e)))
 
       -- it was done, and its lines were put
       pub print_done :
-          {p : Put} {after : List ℕ} → r.code ≡ 0 → Lines (line_in words first log out') (longest words) out' r.answers text p after →
-          Printed words first os ts ss log out text p os' ts' ss' out' after
+          {p : Result ℕ Code} {after : List ℕ} → r.code ≡ 0 → Lines (line_in style first log out') (longest style) out' r.answers text p after →
+          Printed style first os ts ss log out text p os' ts' ss' out' after
       print_done {p} {after} z l = go way
         where
-          go : Way → Printed words first os ts ss log out text p os' ts' ss' out' after
-          go (refuses m n e f) = absurd (n (sym (ap (λ (x : Ran). x.code) (q.answer ∙ e)) ∙ z))
+          go : Way → Printed style first os ts ss log out text p os' ts' ss' out' after
+          go (unsound e f) = let y : r.code ≡ 9 = ap (λ (x : Ran). x.code) (q.answer ∙ e) in absurd (omega (arith, y, z))
+          go (small e f) = let y : r.code ≡ 11 = ap (λ (x : Ran). x.code) (q.answer ∙ e) in absurd (omega (arith, y, z))
           go (does m e f) =
               let n = parts_in (length log) in
               let s = state_of os ts ss in
               let k : r.answers ≡ n = ap (λ (x : Ran). x.answers) (q.answer ∙ e) in
               let b : ran_parts os ts ss log out ≡ n = ap (λ (x : Ran). x.answers) e in
               let o : out' ≡ answers_to s log out n = q.buffer ∙ ap (answers_to s log out) b in
-              let same : cat (line_in words first log out') r.answers ≡ lines_to words first s log n = rw (k, o) (lines_are words first s log out n m) in
+              let same : cat (line_in style first log out') r.answers ≡ lines_to style first s log n = rw (k, o) (lines_are style first s log out n m) in
               let room : length out' ≡ length out = ap length o ∙ answers_length s log out n in
-              let d = lines_done (line_in words first log out') (longest words) out' r.answers (omega (arith, k, room)) (rw k h) l in
-              as_run (d.0 ∙ ap (λ (l : List ℕ). put_with 0 (length l)) same ∙ sym f) (d.1 ∙ ap (λ (l : List ℕ). laid l text) (same ∙ ap (lines_to words first s log) (sym b)))
+              let d = lines_done (line_in style first log out') (longest style) out' r.answers (omega (arith, k, room)) (rw k h) l in
+              as_run (d.0 ∙ ap (λ (l : List ℕ). Ok (length l)) same ∙ sym f) (d.1 ∙ ap (λ (l : List ℕ). laid l text) (same ∙ ap (lines_to style first s log) (sym b)))
 
 -- an accepted log: how many bytes were put
-pub done_answer : (words : Bool) (first : ℕ) (os ts ss log out : List ℕ) (room : ℕ) {p : Put} → p ≡ print_answer words first os ts ss log out room → p.code ≡ 0
-    → p.bytes ≡ length (lines_to words first (state_of os ts ss) log (parts_in (length log)))
+pub done_answer : (style : Style) (first : ℕ) (os ts ss log out : List ℕ) (room : ℕ) {n : ℕ} → Ok n ≡ print_answer style first os ts ss log out room
+    → n ≡ length (lines_to style first (state_of os ts ss) log (parts_in (length log)))
 unfolding print_answer
-done_answer words first os ts ss log out room {p} a z =
-    go (keeps_test os ts ss) (ltb (length out) (2 * parts_in (length log)) || ltb room (longest words * parts_in (length log))) refl refl
+done_answer style first os ts ss log out room {n} a =
+    go (keeps_test os ts ss) (ltb (length out) (2 * parts_in (length log)) || ltb room (longest style * parts_in (length log))) refl refl
   where
-    go : (b c : Bool) → keeps_test os ts ss ≡ b → (ltb (length out) (2 * parts_in (length log)) || ltb room (longest words * parts_in (length log))) ≡ c
-        → p.bytes ≡ length (lines_to words first (state_of os ts ss) log (parts_in (length log)))
-    go false c e f = let y : p.code ≡ 9 = ap (λ (x : Put). x.code) a ∙ rw e in absurd (omega (arith, y, z))
-    go true true e f = let y : p.code ≡ 11 = ap (λ (x : Put). x.code) a ∙ rw (e, f) in absurd (omega (arith, y, z))
-    go true false e f = ap (λ (x : Put). x.bytes) a ∙ rw (e, f)
+    go : (b c : Bool) → keeps_test os ts ss ≡ b → (ltb (length out) (2 * parts_in (length log)) || ltb room (longest style * parts_in (length log))) ≡ c
+        → n ≡ length (lines_to style first (state_of os ts ss) log (parts_in (length log)))
+    go false c e f = let y : Ok n ≡ Err Value = a ∙ rw e in cc
+    go true true e f = let y : Ok n ≡ Err Room = a ∙ rw (e, f) in cc
+    go true false e f = let y : Ok n ≡ Ok (length (lines_to style first (state_of os ts ss) log (parts_in (length log)))) = a ∙ rw (e, f) in cc

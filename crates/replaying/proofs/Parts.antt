@@ -1,7 +1,7 @@
 -- What the functions here cite of numbers and of parts of a buffer.
-use Rattle.std.proofs.Common.{◌≡◌, ℕ, suc, ◌+◌, ◌-◌, ◌*◌, ◌/◌, ◌%◌, ◌<◌, ◌≤◌, min, Bool, true, false, eqb, ltb, leb, ◌≢◌, List, [], ◌++◌, length, get_or, take, drop, set, sym, refl, ap, ◌∙◌, append-nil, mul_comm, add_comm, le-div_iff_mul-le, zero-add, add-one, arith, length-drop, take-append-drop, length-take, length-take-le, get_or-drop, take_all, take-take, get_or-append-add, take-add, drop_at, eq-eqb, ne_eqb, le-leb}
+use Rattle.std.proofs.Common.{◌≡◌, ℕ, ◌+◌, ◌*◌, ◌/◌, ◌%◌, ◌<◌, ◌≤◌, min, leb, List, ◌++◌, length, get_or, take, drop, set, sym, ap, ◌∙◌, mul_comm, add_comm, le-div_iff_mul-le, zero-add, add-one, arith, length-drop, take-append-drop, length-take, length-take-le, get_or-drop, take_all, get_or-append-add, take-add, drop_at, eq-eqb, ne_eqb, le-leb}
 use native.Mathlib.Decide.{dec_le, ℕ_discrete}
-use lib.Seq.{paste, paste-suc, drop-length}
+use lib.Seq.{paste, paste-suc}
 use borrow.Author.Tests.{lt-leb}
 use Rattle.calls.specs.Calls.{parts_in}
 use Rattle.replaying.specs.Printing.{laid}
@@ -35,13 +35,10 @@ div_room a each room h = rw mul_comm (go (dec_le a (room / each)))
         more (yes m) = absurd (n ((le-div_iff_mul-le h).1 m))
         more (no m) = omega arith
 
-pub room_even : (n each room : ℕ) → 0 < each → n % 16 ≡ 0 → leb (n / 16) (room / each) ≡ leb (each * parts_in n) room
-room_even n each room h z = let e : parts_in n ≡ n / 16 = rw (eq-eqb _ 0 z) (omega arith) in rw e (div_room (n / 16) each room h)
-
-pub room_odd : (n each room : ℕ) → 0 < each → n % 16 ≢ 0 → ltb (n / 16) (room / each) ≡ leb (each * parts_in n) room
-room_odd n each room h z =
-    let e : parts_in n ≡ suc (n / 16) = rw (ne_eqb _ 0 z) (add-one (n / 16)) in
-    rw e (div_room (suc (n / 16)) each room h)
+pub room_is : (n each room : ℕ) → 0 < each → leb (n / 16 + min 1 (n % 16)) (room / each) ≡ leb (each * parts_in n) room
+room_is n each room h =
+    let e : n / 16 + min 1 (n % 16) ≡ parts_in n = omega (arith, parts_are n) in
+    rw e (div_room (parts_in n) each room h)
 
 -- ---- bytes moved to the front, one by one
 

@@ -1,13 +1,13 @@
 -- A log that is run in pieces of whole calls is the log run whole: the state afterwards, and whatever is made of each answer.
-use Rattle.std.proofs.Common.{◌≡◌, ℕ, zero, suc, ◌+◌, ◌-◌, ◌*◌, ◌<◌, ◌≤◌, Bool, List, [], ◌++◌, length, take, drop, sym, refl, ap, ◌∙◌, append_assoc, append-nil, add-zero, add-suc, arith, length-drop}
+use Rattle.std.proofs.Common.{◌≡◌, ℕ, zero, suc, ◌+◌, ◌-◌, ◌*◌, ◌<◌, ◌≤◌, List, ◌++◌, length, take, drop, sym, refl, ap, ◌∙◌, append_assoc, append-nil, add-zero, add-suc, arith, length-drop}
 use lib.Seq.{take-append-le, drop-append-le, drop-append-add}
 use Rattle.answer.specs.declared.Answer.{Answer}
 use Rattle.answer.specs.Stores.{cat}
 use Rattle.tables.specs.State.{State}
-use Rattle.judging.specs.Change.{left}
 use Rattle.image_write.proofs.Bytes.{cat_same}
-use Rattle.calls.specs.Calls.{part_at, parts_in, ran_to}
+use Rattle.calls.specs.Calls.{part_at, ran_to}
 use Rattle.explain.specs.Words.{number_at}
+use Rattle.replaying.specs.declared.Style.{Style}
 use Rattle.replaying.specs.Printing.{answer_at, line_of, lines_to}
 
 -- numbers go on
@@ -57,11 +57,11 @@ module _ (a b : List ℕ) (m : ℕ) (whole : length a ≡ 16 * m) where
       ∙ rw (in_pieces line s n, answer_second s n, part_second n)
       (append_assoc (cat (λ k. line k (part_at a k) (answer_at s a k)) m) (cat (λ k. line (m + k) (part_at b k) (answer_at (ran_to s a m) b k)) n) (line (m + n) (part_at b n) (answer_at (ran_to s a m) b n)))
 
-  -- so what is printed of the whole is what is printed of the pieces, in numbers and in words; the numbers go on
-  pub lines_in_pieces : (words : Bool) (first : ℕ) (s : State) (n : ℕ)
-      → lines_to words first s (a ++ b) (m + n) ≡ lines_to words first s a m ++ lines_to words (number_at first m) (ran_to s a m) b n
+  -- so what is printed of the whole is what is printed of the pieces, in numbers and in style; the numbers go on
+  pub lines_in_pieces : (style : Style) (first : ℕ) (s : State) (n : ℕ)
+      → lines_to style first s (a ++ b) (m + n) ≡ lines_to style first s a m ++ lines_to style (number_at first m) (ran_to s a m) b n
   unfolding lines_to
-  lines_in_pieces words first s n =
-      in_pieces (λ k part answer. line_of words (number_at first k) part answer) s n
-      ∙ ap (λ (l : List ℕ). lines_to words first s a m ++ l)
-      (cat_same _ _ n (λ k h. ap (λ (i : ℕ). line_of words i (part_at b k) (answer_at (ran_to s a m) b k)) (number_on first m k)))
+  lines_in_pieces style first s n =
+      in_pieces (λ k part answer. line_of style (number_at first k) part answer) s n
+      ∙ ap (λ (l : List ℕ). lines_to style first s a m ++ l)
+      (cat_same _ _ n (λ k h. ap (λ (i : ℕ). line_of style i (part_at b k) (answer_at (ran_to s a m) b k)) (number_on first m k)))

@@ -5,17 +5,19 @@
 // ROOM change nothing. `put_refusal` puts the line of an image that was refused. What pieces the log comes in makes no difference (proofs/Pieces.antt).
 #![tactic(auto)]
 
-ghost use Rattle.std.specs.Prelude.{◌≡◌, ℕ, ◌+◌, ◌*◌, ◌<◌, ◌≤◌, min, List, [], ◌∷◌, length, take, drop, if◌then◌else◌, ◌==◌, nat_le};
+ghost use Rattle.std.specs.Prelude.{◌≡◌, ℕ, ◌+◌, ◌*◌, ◌<◌, ◌≤◌, min, false, List, [], ◌∷◌, ◌++◌, length, take, drop, if◌then◌else◌, ◌==◌, nat_le};
+ghost use Rattle.answer.specs.declared.Code.TheVariants.{Value, Room};
+ghost use Rattle.text.specs.Text.{ascii};
 ghost use Rattle.lines.specs.Lines.{Lines};
+ghost use Rattle.lines.specs.Pens.{Writes};
+ghost use Rattle.words.specs.Words.{answer_words};
 ghost use Rattle.calls.specs.Calls.{parts_in};
-ghost use Rattle.explain.specs.Words.{number_at};
 ghost use Rattle.rules.specs.Rules.{keeps_test};
 ghost use Rattle.replaying.specs.Printing.{longest, line_in, refusal_of, laid, Printed};
 ghost use Rattle.replaying.specs.Feeding.{cut_at, FedIs};
 
-use answer::{OK, ROOM, VALUE};
-use calls::Ran;
-use lines::Put;
+use answer::Code;
+use lines::Pen;
 
 // How many bytes a call has.
 const CALL: usize = 16;
@@ -23,24 +25,28 @@ const CALL: usize = 16;
 // Room for the line of a refused image.
 pub const REFUSAL: usize = 30;
 
-// How many numbers a call can have before they begin again.
-const NUMBERS: u64 = 4294967296;
+// How answers are told: in numbers for machines, in words for people.
+#[derive(Clone, Copy)]
+pub enum Style {
+    Numbers,
+    Words,
+}
 
-// What feeding answers: the table's number with the text's bytes, how many bytes of the log are kept, and the next call's number.
+// What feeding answers: how many bytes the text has, how many bytes of the log are kept, and the next call's number.
 #[derive(Clone, Copy)]
 pub struct Fed {
-    pub put: Put,
+    pub put: Result<usize, Code>,
     pub left: usize,
     pub next: u32,
 }
 
-fn longest_line(words: bool) -> usize
-    ensures { result ≡ longest words }
+fn longest_line(style: Style) -> usize
+    ensures { result ≡ longest style }
 {
-    if words {
-        return explain::LONGEST;
+    match style {
+        Style::Numbers => lines::LONGEST,
+        Style::Words => explain::LONGEST,
     }
-    lines::LONGEST
 }
 
 // Whether each part of a log of n bytes has `each` bytes of the room.
@@ -48,43 +54,34 @@ fn has_room(n: usize, each: usize, room: usize) -> bool
     requires { 0 < each }
     ensures { result ≡ nat_le (each * parts_in n) room }
 {
-    if n % CALL == 0 {
-        return n / CALL <= room / each;
-    }
-    n / CALL < room / each
+    n.div_ceil(CALL) <= room / each
 }
 
 // The lines of the first n answers.
-fn put_text(first: u32, log: &[u8], out: &[u32], n: usize, words: bool, text: &mut [u8]) -> Put
-    ensures { Lines (line_in words first log.now out.now) (longest words) out.now n text.old result text.new }
+fn put_text(
+    first: u32,
+    log: &[u8],
+    out: &[u32],
+    n: usize,
+    style: Style,
+    text: &mut [u8],
+) -> Result<usize, Code>
+    ensures { Lines (line_in style first log.now out.now) (longest style) out.now n text.old result text.new }
 {
-    if words {
-        return explain::put_explained(first, log, out, n, text);
+    match style {
+        Style::Numbers => lines::put_lines(out, n, text),
+        Style::Words => explain::put_explained(first, log, out, n, text),
     }
-    lines::put_lines(out, n, text)
 }
 
-// A line for every answer of a run.
-fn put_ran(first: u32, log: &[u8], out: &[u32], ran: Ran, words: bool, text: &mut [u8]) -> Put
-    ensures { Lines (line_in words first log.now out.now) (longest words) out.now ran.answers text.old result text.new }
-{
-    put_text(first, log, out, ran.answers, words, text)
-}
-
-// A log whose lines have no room: that is said of a state only.
-fn without_room(objects: &[u64], threads: &[u32], slots: &[u32]) -> Put
-    ensures { result ≡ record { code = (if keeps_test objects.now threads.now slots.now then 11 else 9); bytes = 0 } }
+// Why a log is refused whose lines have no room: that is said of a state only.
+fn without_room(objects: &[u64], threads: &[u32], slots: &[u32]) -> Code
+    ensures { result ≡ (if keeps_test objects.now threads.now slots.now then Room else Value) }
 {
     if rules::keeps(objects, threads, slots) {
-        return Put {
-            code: ROOM,
-            bytes: 0,
-        };
+        return Code::Room;
     }
-    Put {
-        code: VALUE,
-        bytes: 0,
-    }
+    Code::Value
 }
 
 // A whole log.
@@ -94,23 +91,21 @@ fn print(
     slots: &mut [u32],
     first: u32,
     log: &[u8],
-    words: bool,
+    style: Style,
     out: &mut [u32],
     text: &mut [u8],
-) -> Put
-    ensures { Printed words first objects.old threads.old slots.old log.now out.old text.old result objects.new threads.new slots.new out.new text.new }
+) -> Result<usize, Code>
+    ensures { Printed style first objects.old threads.old slots.old log.now out.old text.old result objects.new threads.new slots.new out.new text.new }
 {
-    if !has_room(log.len(), longest_line(words), text.len()) {
-        return without_room(objects, threads, slots);
+    if !has_room(log.len(), longest_line(style), text.len()) {
+        return Err(without_room(objects, threads, slots));
     }
     let ran = calls::run(objects, threads, slots, log, out);
-    if ran.code != OK {
-        return Put {
-            code: ran.code,
-            bytes: 0,
-        };
+    match ran.code {
+        answer::OK => put_text(first, log, out, ran.answers, style, text),
+        answer::VALUE => Err(Code::Value),
+        _ => Err(Code::Room),
     }
-    put_ran(first, log, out, ran, words, text)
 }
 
 fn cut_at(n: usize, last: bool) -> usize
@@ -127,35 +122,13 @@ fn keep(log: &mut [u8], from: usize, n: usize)
     requires { (from ≤ n) × (n ≤ length log.old) }
     ensures { log.new ≡ laid (drop from (take n log.old)) log.old }
 {
-    let mut i = 0;
-    while from + i < n {
+    // By itself, byte for byte: std has no `copy_within`, and what is kept is less than a call.
+    for i in 0..n - from {
         log[i] = log[from + i];
-        i += 1;
     }
 }
 
-// How many bytes are there: those that were kept and those that came, as far as the buffer goes.
-fn there(have: usize, more: usize, most: usize) -> usize
-    ensures { result ≡ min (have + more) most }
-{
-    if most <= have {
-        return most;
-    }
-    if most - have <= more {
-        return most;
-    }
-    have + more
-}
-
-// The number of the call behind n others.
-fn number_after(first: u32, n: usize) -> u32
-    ensures { result ≡ number_at first n }
-{
-    let more = (n as u64 % NUMBERS) as u32;
-    std::num::wrapping_add_u32(first, more)
-}
-
-// `have` bytes were kept, and `more` came behind them: none at the input's end.
+// `have` bytes were kept, and `more` came behind them, as far as the buffer goes: none at the input's end.
 pub fn feed(
     objects: &mut [u64],
     threads: &mut [u32],
@@ -164,13 +137,13 @@ pub fn feed(
     log: &mut [u8],
     have: usize,
     more: usize,
-    words: bool,
+    style: Style,
     out: &mut [u32],
     text: &mut [u8],
 ) -> Fed
-    ensures { FedIs words (more == 0) first objects.old threads.old slots.old log.old (have + more) out.old text.old result objects.new threads.new slots.new log.new out.new text.new }
+    ensures { FedIs style (more == 0) first objects.old threads.old slots.old log.old (have + more) out.old text.old result objects.new threads.new slots.new log.new out.new text.new }
 {
-    let n = there(have, more, log.len());
+    let n = have.saturating_add(more).min(log.len());
     let cut = cut_at(n, more == 0);
     let put = print(
         objects,
@@ -178,11 +151,11 @@ pub fn feed(
         slots,
         first,
         &log[..cut],
-        words,
+        style,
         out,
         text,
     );
-    if put.code != OK {
+    if put.is_err() {
         return Fed {
             put,
             left: n,
@@ -193,25 +166,30 @@ pub fn feed(
     Fed {
         put,
         left: n - cut,
-        next: number_after(first, cut / CALL),
+        next: explain::line_number(first, cut / CALL),
     }
 }
 
+fn put_image(pen: &mut Pen, code: u32)
+    ensures { Writes pen.old pen.new 29 (ascii "image" ++ answer_words false code 0) }
+{
+    pen.word(b"image");
+    pen.at = words::put_answer(pen.text, pen.at, false, code, 0);
+}
+
 // The line of a refused image, where the longest would have room: its answer and 0.
-pub fn put_refusal(code: u32, words: bool, text: &mut [u8]) -> Put
-    ensures { Lines (λ _. refusal_of words code) 30 (code ∷ 0 ∷ []) 1 text.old result text.new }
+pub fn put_refusal(code: u32, style: Style, text: &mut [u8]) -> Result<usize, Code>
+    ensures { Lines (λ _. refusal_of style code) 30 (code ∷ 0 ∷ []) 1 text.old result text.new }
 {
     if text.len() < REFUSAL {
-        return Put {
-            code: ROOM,
-            bytes: 0,
-        };
+        return Err(Code::Room);
     }
-    if words {
-        let p = text::put_word(text, 0, b"image");
-        let bytes = words::put_answer(text, p, false, code, 0);
-        return Put { code: OK, bytes };
+    match style {
+        Style::Numbers => lines::put_lines(&[code, 0], 1, text),
+        Style::Words => {
+            let mut pen = Pen { text, at: 0 };
+            put_image(&mut pen, code);
+            Ok(pen.at)
+        }
     }
-    let out = [code, 0];
-    lines::put_lines(&out, 1, text)
 }

@@ -1,17 +1,16 @@
-use Rattle.std.proofs.Common.{◌≡◌, ◌+◌, eqb, sym, refl, ap, ◌∙◌, arith, length-take-le, rules}
+use Rattle.std.proofs.Common.{◌≡◌, ◌+◌, min, not, eqb, length, sym, ap, ◌∙◌, arith, length-take-le}
 use Rattle.replaying.proofs.Feeds.{feed_refused, feed_done}
-use Rattle.replaying.proofs.cut_at.Reads as cut-at-reads
-use Rattle.replaying.proofs.keep.Reads as keep-reads
-use Rattle.replaying.proofs.number_after.Reads as number-after-reads
-use Rattle.replaying.proofs.print.Reads as print-reads
-use Rattle.replaying.proofs.there.Reads as there-reads
 use Rattle.replaying.proofs.feed.Goals as goal
 
 pub slice_bounds-print-end-2 : goal.slice_bounds-print-end-2
 slice_bounds-print-end-2 c = sym (length-take-le c.cut_at-cut.result c.args.log.now (omega arith))
 
-pub returns-then-put-ne-OK : goal.returns-then-put-ne-OK
-returns-then-put-ne-OK c = feed_refused c.args.words (eqb c.args.more 0) c.args.first _ _ _ c.args.log.now (c.args.have + c.args.more) _ _ c.there-n.ensures c.cut_at-cut.ensures c.print-put.ensures c.if-put-ne-OK.true c.ranges.first
+pub returns-then-is_err : goal.returns-then-is_err
+returns-then-is_err c =
+    let there : c.min-n.result ≡ min (c.args.have + c.args.more) (length c.args.log.now) = omega arith in
+    feed_refused c.args.style (eqb c.args.more 0) c.args.first _ _ _ c.args.log.now (c.args.have + c.args.more) _ _ there c.cut_at-cut.ensures c.print-put.ensures (c.is_err.ensures.negation ∙ ap not c.if-is_err.true) c.ranges.first
 
 pub returns : goal.returns
-returns c = feed_done c.args.words (eqb c.args.more 0) c.args.first _ _ _ c.args.log.now (c.args.have + c.args.more) _ _ c.there-n.ensures c.cut_at-cut.ensures c.print-put.ensures c.if-put-ne-OK.false c.keep.ensures c.number_after.ensures
+returns c =
+    let there : c.min-n.result ≡ min (c.args.have + c.args.more) (length c.args.log.now) = omega arith in
+    feed_done c.args.style (eqb c.args.more 0) c.args.first _ _ _ c.args.log.now (c.args.have + c.args.more) _ _ there c.cut_at-cut.ensures c.print-put.ensures (c.is_err.ensures.negation ∙ ap not c.if-is_err.false) c.keep.ensures c.line_number.ensures

@@ -1,24 +1,18 @@
-use Rattle.std.proofs.Common.{◌≡◌, ◌+◌, ◌-◌, ◌*◌, ◌/◌, ◌≤◌, [], ◌∷◌, length, drop, sym, refl, ap, ◌∙◌, arith, length-set, rules}
-use lib.Seq.{paste, paste-zero}
-use Rattle.lines.specs.Steps.{small}
-use Rattle.replaying.specs.Printing.{refusal_of}
-use Rattle.replaying.proofs.Parts.{room_even, room_odd, keep_turn, keep_done}
-use Rattle.replaying.proofs.Laws.{longest_some, has_no_room, has_its_room, lines_as, refusal_as, refusal_words, refusal_line, print_without, print_refused, print_done}
-use Rattle.calls.proofs.run.Reads as run-reads
-use Rattle.replaying.proofs.has_room.Reads as has-room-reads
-use Rattle.replaying.proofs.longest_line.Reads as longest-line-reads
-use Rattle.replaying.proofs.put_ran.Reads as put-ran-reads
-use Rattle.replaying.proofs.without_room.Reads as without-room-reads
+use Rattle.std.proofs.Common.{refl, arith}
+use Rattle.replaying.proofs.Laws.{longest_some, has_no_room, has_its_room, print_without, print_refused, print_done}
 use Rattle.replaying.proofs.print.Goals as goal
 
 pub has_room-requires : goal.has_room-requires
-has_room-requires c = rw c.longest_line.ensures (longest_some c.args.words)
+has_room-requires c = rw c.longest_line.ensures (longest_some c.args.style)
 
 pub returns-then-not-has_room : goal.returns-then-not-has_room
-returns-then-not-has_room c = print_without c.args.words c.args.first _ _ _ c.args.log.now _ _ _ (has_no_room c.args.words c.args.log.now c.args.text.now c.has_room.ensures c.longest_line.ensures c.if-not-has_room.true) c.without_room.ensures
+returns-then-not-has_room c = print_without c.args.style c.args.first _ _ _ c.args.log.now _ _ _ (has_no_room c.args.style c.args.log.now c.args.text.now c.has_room.ensures c.longest_line.ensures c.if-not-has_room.true) c.without_room.ensures
 
-pub returns-then-ran-ne-OK : goal.returns-then-ran-ne-OK
-returns-then-ran-ne-OK c = print_refused c.args.words c.args.first _ _ _ c.args.log.now _ _ (has_its_room c.args.words c.args.log.now c.args.text.now c.has_room.ensures c.longest_line.ensures c.if-not-has_room.false) c.run-ran.ensures c.if-ran-ne-OK.true
+pub returns-in-0 : goal.returns-in-0
+returns-in-0 c = print_done c.args.style c.args.first _ _ _ c.args.log.now _ _ (has_its_room c.args.style c.args.log.now c.args.text.now c.has_room.ensures c.longest_line.ensures c.if-not-has_room.false) c.run-ran.ensures c.in-0.is c.put_text.ensures
 
-pub returns : goal.returns
-returns c = print_done c.args.words c.args.first _ _ _ c.args.log.now _ _ (has_its_room c.args.words c.args.log.now c.args.text.now c.has_room.ensures c.longest_line.ensures c.if-not-has_room.false) c.run-ran.ensures c.if-ran-ne-OK.false c.put_ran.ensures
+pub returns-in-9 : goal.returns-in-9
+returns-in-9 c = print_refused c.args.style c.args.first _ _ _ c.args.log.now _ _ (has_its_room c.args.style c.args.log.now c.args.text.now c.has_room.ensures c.longest_line.ensures c.if-not-has_room.false) c.run-ran.ensures (λ e. omega (arith, c.in-9.is)) (λ _. refl) (λ e. absurd (omega (arith, c.in-9.is)))
+
+pub returns-in_default : goal.returns-in_default
+returns-in_default c = print_refused c.args.style c.args.first _ _ _ c.args.log.now _ _ (has_its_room c.args.style c.args.log.now c.args.text.now c.has_room.ensures c.longest_line.ensures c.if-not-has_room.false) c.run-ran.ensures (λ e. omega arith) (λ e. absurd (omega arith)) (λ _. refl)

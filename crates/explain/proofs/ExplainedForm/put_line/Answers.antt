@@ -9,6 +9,6 @@ use Rattle.explain.proofs.ExplainedForm.put_line.Goals as goal
 pub returns : goal.returns
 unfolding explained numeral
 returns c =
-    in_room c.requires.0 (known_as (rw (c.number_of.ensures, c.is_address.ensures, c.part_of-part.ensures) refl) (
+    in_room c.requires.0 (known_as (rw (c.line_number.ensures, c.is_address.ensures, c.part_of-part.ensures) refl) (
     c.number.ensures.with_room then c.word.ensures.with_room then c.put_part.ensures
     then placed widest_answer (answer_most _ _ _) c.put_answer-pen.ensures c.put_answer-pen.auto.text))
