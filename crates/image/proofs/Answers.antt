@@ -127,20 +127,18 @@ module _ (b os ts ss : List ℕ) where
     wrong_head a e n = refused a (e ∙ sym (rw z (head_stops b _ (λ q. n (e ∙ q))))) n
 
     -- behind a good header: whether the contents are fine decides what stands in the tables
-    module _ (e : headed b 0 ≡ 0) {fine : Bool} (h : fine ≡ accepted b) (o t s : List ℕ) {os' ts' ss' : List ℕ} (eo : os' ≡ cond fine o os) (et : ts' ≡ cond fine t ts) (es : ss' ≡ cond fine s ss) where
-      pub wrong_contents : fine ≡ false → ReadIs b os ts ss os' ts' ss' [] (number_of Value)
+    module _ (e : headed b 0 ≡ 0) where
+      pub wrong_contents : accepted b ≡ false → ReadIs b os ts ss os ts ss [] (number_of Value)
       unfolding read_code image_code
-      wrong_contents f =
-          let n : accepted b ≡ false = sym h ∙ f in
-          rw (eo, et, es, f) (refused (number_of Value) (sym (rw (z, n) (head_passes b (number_of Value) e))) (λ q. omega arith))
+      wrong_contents n = refused (number_of Value) (sym (rw (z, n) (head_passes b (number_of Value) e))) (λ q. omega arith)
 
       pub right :
-          fine ≡ true → {part : List ℕ} → o ≡ read_objects b → t ≡ read_threads b → s ≡ read_slots b → part ≡ drop (total_of b) b → ReadIs b os ts ss os' ts' ss' part (number_of Ok)
+          accepted b ≡ true → {os' ts' ss' part : List ℕ} → os' ≡ read_objects b → ts' ≡ read_threads b → ss' ≡ read_slots b → part ≡ drop (total_of b) b →
+          ReadIs b os ts ss os' ts' ss' part (number_of Ok)
       unfolding read_code image_code
-      right f {part} ro rt rs rp =
-          let n : accepted b ≡ true = sym h ∙ f in
+      right n ro rt rs rp =
           let q : read_code b os ts ss ≡ 0 = rw (z, n) (head_passes b (number_of Ok) e) in
-          record { answer = sym q; rest = rw q rp; objects = rw q (eo ∙ rw f ro); threads = rw q (et ∙ rw f rt); slots = rw q (es ∙ rw f rs) }
+          record { answer = sym q; rest = rw q rp; objects = rw q ro; threads = rw q rt; slots = rw q rs }
 
 -- ---- the writer's word on the scratch
 

@@ -4,12 +4,13 @@ use native.Mathlib.Nat.{pow-suc, add-sub_cancel_left, le_trans, le_refl, pow-le-
 use native.Mathlib.Numerals.{add-one}
 use native.Mathlib.Omega.{arith}
 use mathlib.Core.Path.{◌≡◌, refl, ap, ◌∙◌}
-use mathlib.Core.Bool.{true, false, and-false}
+use mathlib.Core.Bool.{true}
 use mathlib.Core.List.{List, [], ◌∷◌, ◌++◌}
 use lib.Dec.{eqb, lit<}
 use lib.ListN.{length, take, drop, get_or, set, length-drop}
-use lib.Seq.{sets, drop-cons, drop-length, take_all}
-use borrow.Author.Tests.{lt-ltb, le-ltb, eq-eqb, ne_eqb, eqb-true}
+use lib.Seq.{sets, drop-cons, take_all}
+use borrow.Author.Tests.{lt-ltb, le-ltb, eqb-true}
+use Rattle.std.specs.Cmp.Lexicographic.{pointwise}
 use Rattle.domain_rules.proofs.All.{both_true}
 use Rattle.answer.specs.Stores.{cat}
 use Rattle.image_write.specs.Bytes.{value, le}
@@ -46,24 +47,13 @@ get_most n k r b p q h l =
 pub get_fits : (n k r b : ℕ) → 0 < k → k ≤ n → n ≤ 8 → r < 256 ^ (n - k) → b < 256 → r * 256 + b < 256 ^ 8
 get_fits n k r b p q m h l = le_trans (get_most n k r b p q h l) (pow_most (n - (k - 1)) 8 (omega arith))
 
-pub eqs_turn : (a b : List ℕ) (i : ℕ) → i < length a → i < length b → get_or a i 0 ≡ get_or b i 0 → eqs (drop i a) (drop i b) ≡ eqs (drop (i + 1) a) (drop (i + 1) b)
+-- what `==` of two slices computes
+pub eqs_same : (a b : List ℕ) → pointwise eqb a b ≡ eqs a b
 unfolding eqs
-eqs_turn a b i h k e = rw (add-one, drop-cons a i 0 h, drop-cons b i 0 k, eq-eqb _ _ e) refl
-
-pub eqs_no : (a b : List ℕ) (i : ℕ) → i < length a → i < length b → (get_or a i 0 ≡ get_or b i 0 → ⊥) → eqs (drop i a) (drop i b) ≡ false
-unfolding eqs
-eqs_no a b i h k e = rw (drop-cons a i 0 h, drop-cons b i 0 k, ne_eqb _ _ e) refl
-
-pub eqs_long : (a b : List ℕ) → (length a ≡ length b → ⊥) → eqs a b ≡ false
-unfolding eqs
-eqs_long [] [] h = absurd (h refl)
-eqs_long [] (y ∷ b) h = refl
-eqs_long (x ∷ a) [] h = refl
-eqs_long (x ∷ a) (y ∷ b) h = rw (eqs_long a b (λ e. h (ap suc e))) (and-false (eqb x y))
-
-pub eqs_end : (a b : List ℕ) → length a ≡ length b → eqs (drop (length a) a) (drop (length a) b) ≡ true
-unfolding eqs
-eqs_end a b e = rw (drop-length, e, drop-length) refl
+eqs_same [] [] = refl
+eqs_same [] (y ∷ b) = refl
+eqs_same (x ∷ a) [] = refl
+eqs_same (x ∷ a) (y ∷ b) = rw (eqs_same a b) refl
 
 pub eqs_true : (a b : List ℕ) → eqs a b ≡ true → a ≡ b
 unfolding eqs

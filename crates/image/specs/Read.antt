@@ -116,12 +116,11 @@ pub record ReadIs (b os ts ss os' ts' ss' part : List ℕ) (code : ℕ) : Type 0
 
 -- ---- what functions inside the reader ask and give
 
--- a good header, and tables all zero
-pub record Fresh (b os ts ss : List ℕ) : Type 0 where
+-- a good header, and tables of objects and of threads that are all zero
+pub record Fresh (b os ts : List ℕ) : Type 0 where
   pub head : headed b 0 ≡ 0
   pub objects : os ≡ replicate (2 * HANDLES) 0
   pub threads : ts ≡ replicate (3 * THREADS) 0
-  pub slots : length ss ≡ 384
 
 pub record Decoded (b os ts ss : List ℕ) (end : ℕ) : Type 0 where
   pub objects : os ≡ read_objects b

@@ -3,7 +3,7 @@
 // accepted exactly when it is what the writer writes of a state that keeps the rules, and a refusal changes nothing.
 #![tactic(auto)]
 
-ghost use Rattle.std.specs.Prelude.{◌≡◌, cond, ◌+◌, ◌*◌, ◌≤◌, ◌<◌, ◌^◌, length};
+ghost use Rattle.std.specs.Prelude.{◌≡◌, ◌+◌, ◌*◌, ◌≤◌, ◌<◌, ◌^◌, length};
 ghost use Rattle.std.proofs.lemmas.List.Edits.{sets};
 ghost use Rattle.answer.specs.Stores.{cat};
 ghost use Rattle.image_write.specs.Bytes.{le, magic};
@@ -29,46 +29,22 @@ const EACH_OBJECT: u64 = OBJECT as u64;
 
 const EACH_THREAD: u64 = THREAD as u64;
 
-fn wide(x: u8) -> u64
-    ensures { result ≡ x }
-{
-    x as u64
-}
-
 // The number of the n bytes at a place, the lower first.
 fn get(s: &[u8], at: usize, n: usize) -> u64
     requires { (n ≤ 8) × (at + n ≤ length s.now) }
     ensures { (result ≡ le n s.now at) × (result < 256 ^ n) }
 {
-    let mut r: u64 = 0;
-    let mut k = n;
-    while 0 < k {
-        k -= 1;
-        r = r * 256 + wide(s[at + k]);
+    let mut r = 0u64;
+    for k in (0..n).rev() {
+        r = r * 256 + u64::from(s[at + k]);
     }
     r
-}
-
-fn same(a: &[u8], b: &[u8]) -> bool
-    ensures { result ≡ eqs a.now b.now }
-{
-    if a.len() != b.len() {
-        return false;
-    }
-    let mut i = 0;
-    while i < a.len() {
-        if a[i] != b[i] {
-            return false;
-        }
-        i += 1;
-    }
-    true
 }
 
 fn is_magic(s: &[u8]) -> bool
     ensures { result ≡ eqs s.now magic }
 {
-    same(s, b"WLATCH01")
+    s == b"WLATCH01".as_slice()
 }
 
 // The slice is one domain's record, and so is the part of the table.
@@ -76,43 +52,37 @@ fn get_domain(rec: &[u8], slots: &mut [u32])
     requires { (length rec.now ≡ 192) × (length slots.old ≡ 48) }
     ensures { slots.new ≡ domain_of rec.now }
 {
-    let mut k: usize = 0;
-    while k < NUMBERS {
+    for k in 0..NUMBERS {
         slots[k] = get(rec, 4 * k, 4) as u32;
-        k += 1;
     }
 }
 
 // Each domain is read from a part of the image, which is lent on.
-fn get_domains(image: &[u8], at: usize, slots: &mut [u32])
-    requires { (at + 1536 ≤ length image.now) × (length slots.old ≡ 384) }
+fn get_domains(image: &[u8], at: usize, slots: &mut [u32; SLOT_NUMBERS])
+    requires { at + 1536 ≤ length image.now }
     ensures { slots.new ≡ domains_in image.now at }
 {
-    let mut d: usize = 0;
-    while d < ALL_DOMAINS {
+    for d in 0..ALL_DOMAINS {
         let from = at + DOMAIN * d;
         let to = NUMBERS * d;
         get_domain(&image[from..from + DOMAIN], &mut slots[to..to + NUMBERS]);
-        d += 1;
     }
 }
 
 // Type, flags and the two bytes that must be zero are one number: the rules refuse it from 4096 on.
-fn get_objects(image: &[u8], objects: &mut [u64], n: usize)
-    requires { (16 + 12 * n ≤ length image.now) × ((n ≤ 256) × (length objects.old ≡ 512)) }
+fn get_objects(image: &[u8], objects: &mut [u64; OBJECT_NUMBERS], n: usize)
+    requires { (16 + 12 * n ≤ length image.now) × (n ≤ 256) }
     ensures { objects.new ≡ sets objects.old 0 (cat (object_in image.now) n) }
 {
-    let mut h: usize = 0;
-    while h < n {
+    for h in 0..n {
         objects[2 * h] = get(image, HEADER + OBJECT * h, 4);
         objects[2 * h + 1] = get(image, 20 + OBJECT * h, 8);
-        h += 1;
     }
 }
 
 // The bytes that must be zero are read with the domain and the handle below them, so that the rules refuse them too.
-fn get_thread(image: &[u8], from: usize, threads: &mut [u32])
-    requires { (from + 8 ≤ length image.now) × (length threads.old ≡ 192) }
+fn get_thread(image: &[u8], from: usize, threads: &mut [u32; THREAD_NUMBERS])
+    requires { from + 8 ≤ length image.now }
     ensures { threads.new ≡ enter image.now from threads.old }
 {
     let id = get(image, from, 1) as usize;
@@ -126,33 +96,23 @@ fn get_thread(image: &[u8], from: usize, threads: &mut [u32])
     }
 }
 
-fn get_threads(image: &[u8], at: usize, threads: &mut [u32], n: usize)
-    requires { (at + 8 * n ≤ length image.now) × ((n ≤ 64) × (length threads.old ≡ 192)) }
+fn get_threads(image: &[u8], at: usize, threads: &mut [u32; THREAD_NUMBERS], n: usize)
+    requires { (at + 8 * n ≤ length image.now) × (n ≤ 64) }
     ensures { threads.new ≡ entered image.now at threads.old n }
 {
-    let mut i: usize = 0;
-    while i < n {
+    for i in 0..n {
         get_thread(image, at + THREAD * i, threads);
-        i += 1;
     }
 }
 
 // The header's fields: m objects, n threads, d domains, t bytes.
+#[tactic(auto, unfolding(crate::specs::Read::fields_ok))]
 fn fields_ok(m: u64, n: u64, d: u64, t: u64) -> bool
     requires { (m < 65536) × (n < 256) }
     ensures { result ≡ fields_ok m n d t }
 {
-    if MOST_OBJECTS < m {
-        return false;
-    }
-    if MOST_THREADS < n {
-        return false;
-    }
-    if d != DOMAIN_COUNT {
-        return false;
-    }
     let sum = LEAST_TOTAL + EACH_OBJECT * m + EACH_THREAD * n;
-    t == sum
+    m <= MOST_OBJECTS && n <= MOST_THREADS && d == DOMAIN_COUNT && t == sum
 }
 
 // What the header answers.
@@ -178,38 +138,14 @@ fn head_code(image: &[u8]) -> u32
     answer::OK
 }
 
-// A table is taken over only where the image is fine.
-fn copy64(fine: bool, src: &[u64], dst: &mut [u64])
-    requires { length src.now ≡ length dst.old }
-    ensures { dst.new ≡ cond fine src.now dst.old }
-{
-    if !fine {
-        return;
-    }
-    let mut i = 0;
-    while i < src.len() {
-        dst[i] = src[i];
-        i += 1;
-    }
-}
-
-fn copy32(fine: bool, src: &[u32], dst: &mut [u32])
-    requires { length src.now ≡ length dst.old }
-    ensures { dst.new ≡ cond fine src.now dst.old }
-{
-    if !fine {
-        return;
-    }
-    let mut i = 0;
-    while i < src.len() {
-        dst[i] = src[i];
-        i += 1;
-    }
-}
-
 // Reads the tables off an image with a good header, and hands back the place behind it.
-fn decode(image: &[u8], objects: &mut [u64], threads: &mut [u32], slots: &mut [u32]) -> usize
-    requires { Fresh image.now objects.old threads.old slots.old }
+fn decode(
+    image: &[u8],
+    objects: &mut [u64; OBJECT_NUMBERS],
+    threads: &mut [u32; THREAD_NUMBERS],
+    slots: &mut [u32; SLOT_NUMBERS],
+) -> usize
+    requires { Fresh image.now objects.old threads.old }
     ensures { Decoded image.now objects.new threads.new slots.new result }
 {
     let m = get(image, 8, 2) as usize;
@@ -230,10 +166,9 @@ fn is_image(image: &[u8], t: usize, objects: &[u64], threads: &[u32], slots: &[u
     if w.code != answer::OK {
         return false;
     }
-    let k = w.value as usize;
-    let again = &out[..k];
+    let again = &out[..w.value as usize];
     let there = &image[..t];
-    same(again, there)
+    again == there
 }
 
 // The reader: any bytes, tables of any length. On a refusal an empty part, and every table as it was.
@@ -259,14 +194,13 @@ pub fn read<'a>(
     let mut h = [0u32; THREAD_NUMBERS];
     let mut s = [0u32; SLOT_NUMBERS];
     let end = decode(image, &mut o, &mut h, &mut s);
-    let fine = is_image(image, end, &o, &h, &s);
-    copy64(fine, &o, objects);
-    copy32(fine, &h, threads);
-    copy32(fine, &s, slots);
-    if !fine {
+    if !is_image(image, end, &o, &h, &s) {
         *answer = answer::VALUE;
         return &image[..0];
     }
+    objects.copy_from_slice(&o);
+    threads.copy_from_slice(&h);
+    slots.copy_from_slice(&s);
     *answer = answer::OK;
     &image[end..]
 }

@@ -1,5 +1,5 @@
 -- Laws of bytes, of records one behind the other, and of runs of stores: what every loop that writes or reads an image cites.
-use Prim.Native.Nat.{ℕ, zero, suc, ◌+◌, ◌*◌, ◌/◌, ◌%◌, ◌≤◌, ◌<◌, ◌-◌}
+use Prim.Native.Nat.{ℕ, zero, suc, ◌+◌, ◌*◌, ◌/◌, ◌≤◌, ◌<◌, ◌-◌}
 use native.Mathlib.Nat.{add-sub_cancel_left, mul-suc, le_refl, zero-add}
 use native.Mathlib.Numerals.{add-one}
 use native.Mathlib.Decide.{dec_le}
@@ -15,15 +15,6 @@ pub bytes_length : (n v : ℕ) → length (bytes n v) ≡ n
 unfolding bytes
 bytes_length zero v = refl
 bytes_length (suc n) v = ap suc (bytes_length n (v / 256))
-
--- a turn of `put`
-pub put_turn : (out : List ℕ) (at n k w : ℕ) → k < n
-    → sets out (at + k) (bytes (n - k) w) ≡ sets (set out (at + k) (w % 256)) (at + (k + 1)) (bytes (n - (k + 1)) (w / 256))
-unfolding bytes
-put_turn out at n k w h =
-    let e : n - k ≡ suc (n - (k + 1)) = omega arith in
-    let f : at + (k + 1) ≡ suc (at + k) = omega arith in
-    rw (e, f) refl
 
 -- records of one length
 pub cat_length : (f : ℕ → List ℕ) (m n : ℕ) → ((i : ℕ) → length (f i) ≡ m) → length (cat f n) ≡ m * n

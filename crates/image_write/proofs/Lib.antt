@@ -1,4 +1,5 @@
 pub mod Bytes
 pub mod Turns
+pub mod Counts
 pub mod Answers
 pub mod Unique

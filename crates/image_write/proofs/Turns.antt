@@ -106,7 +106,7 @@ domains_put ss at d o l ys h el ey =
     rw (add-sub_cancel_left (at + 192 * d) 192)
     (part_home l ys (at + 192 * d) 192 n h ∙ rw (ey', el) (cat_turn (domain_part ss) 192 (λ k. bytes_domain _) o at d))
 
-live_none : (ts : List ℕ) → live ts 0 ≡ 0
+pub live_none : (ts : List ℕ) → live ts 0 ≡ 0
 unfolding live
 live_none ts = refl
 

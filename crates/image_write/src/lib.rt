@@ -10,7 +10,7 @@ ghost use Rattle.image_write.specs.Bytes.{bytes, magic};
 ghost use Rattle.image_write.specs.Encode.{object_bytes, thread_bytes, domain_bytes, domains_bytes, top, live, header, encode, Written, Roomy};
 
 use answer::Answer;
-use tables::{DOMAINS, HANDLES, SLOTS, THREADS};
+use tables::{DOMAINS, HANDLES, OBJECT_NUMBERS, SLOT_NUMBERS, SLOTS, THREAD_NUMBERS, THREADS};
 
 // The limits as places, for the passes that count in them.
 const ALL_HANDLES: usize = HANDLES as usize;
@@ -36,42 +36,19 @@ pub const LEAST: usize = HEADER + ALL_DOMAINS * DOMAIN;
 
 pub const LONGEST: usize = LEAST + OBJECT * ALL_HANDLES + THREAD * ALL_THREADS;
 
-fn wide32(x: u32) -> u64
-    ensures { result ≡ x }
-{
-    x as u64
-}
-
 // Writes the n lower bytes of v, the lower first.
 fn put(out: &mut [u8], at: usize, n: usize, v: u64)
-    requires { at + n ≤ length out.old }
+    requires { (n ≤ 8) × (at + n ≤ length out.old) }
     ensures { out.new ≡ sets out.old at (bytes n v) }
 {
-    let mut k = 0;
-    let mut w = v;
-    while k < n {
-        out[at + k] = (w % 256) as u8;
-        w = w / 256;
-        k += 1;
-    }
-}
-
-fn put_all(out: &mut [u8], src: &[u8])
-    requires { length src.now ≤ length out.old }
-    ensures { out.new ≡ sets out.old 0 src.now }
-{
-    let mut i = 0;
-    while i < src.len() {
-        out[i] = src[i];
-        i += 1;
-    }
+    out[at..at + n].copy_from_slice(&v.to_le_bytes()[..n]);
 }
 
 fn put_magic(out: &mut [u8])
     requires { 8 ≤ length out.old }
     ensures { out.new ≡ sets out.old 0 magic }
 {
-    put_all(out, b"WLATCH01");
+    out[..8].copy_from_slice(b"WLATCH01");
 }
 
 fn put_header(out: &mut [u8], m: usize, n: usize)
@@ -86,45 +63,31 @@ fn put_header(out: &mut [u8], m: usize, n: usize)
 }
 
 // Up to the last object that is not free.
-fn count_objects(objects: &[u64]) -> usize
-    requires { length objects.now ≡ 512 }
+fn count_objects(objects: &[u64; OBJECT_NUMBERS]) -> usize
     ensures { (result ≡ top objects.now 256) × (result ≤ 256) }
 {
-    let mut n: usize = ALL_HANDLES;
-    while 0 < n {
-        if objects[2 * (n - 1)] != 0 {
-            return n;
+    for h in (0..ALL_HANDLES).rev() {
+        if objects[2 * h] != 0 {
+            return h + 1;
         }
-        n -= 1;
     }
     0
 }
 
-fn count_threads(threads: &[u32]) -> usize
-    requires { length threads.now ≡ 192 }
+fn count_threads(threads: &[u32; THREAD_NUMBERS]) -> usize
     ensures { (result ≡ live threads.now 64) × (result ≤ 64) }
 {
-    let mut n: usize = 0;
-    let mut t: usize = 0;
-    while t < ALL_THREADS {
-        if threads[3 * t] != 0 {
-            n += 1;
-        }
-        t += 1;
-    }
-    n
+    (0..ALL_THREADS).filter(|t| threads[3 * *t] != 0).count()
 }
 
-fn put_objects(out: &mut [u8], at: usize, objects: &[u64], n: usize)
-    requires { (length objects.now ≡ 512) × ((n ≤ 256) × (at + 12 * n ≤ length out.old)) }
+fn put_objects(out: &mut [u8], at: usize, objects: &[u64; OBJECT_NUMBERS], n: usize)
+    requires { (n ≤ 256) × (at + 12 * n ≤ length out.old) }
     ensures { out.new ≡ sets out.old at (cat (object_bytes objects.now) n) }
 {
-    let mut h: usize = 0;
-    while h < n {
+    for h in 0..n {
         let to = at + OBJECT * h;
         put(out, to, 4, objects[2 * h]);
         put(out, to + 4, 8, objects[2 * h + 1]);
-        h += 1;
     }
 }
 
@@ -140,13 +103,13 @@ fn put_record(out: &mut [u8], at: usize, id: u64, supervisor: u64, domain: u64, 
 }
 
 // A dead thread has no record. Hands back the place behind what was written.
-fn put_thread(out: &mut [u8], at: usize, threads: &[u32], t: usize) -> usize
-    requires { (t < 64) × ((length threads.now ≡ 192) × (at + length (thread_bytes threads.now t) ≤ length out.old)) }
+fn put_thread(out: &mut [u8], at: usize, threads: &[u32; THREAD_NUMBERS], t: usize) -> usize
+    requires { (t < 64) × (at + length (thread_bytes threads.now t) ≤ length out.old) }
     ensures { (out.new ≡ sets out.old at (thread_bytes threads.now t)) × (result ≡ at + length (thread_bytes threads.now t)) }
 {
-    let role = wide32(threads[3 * t]);
-    let domain = wide32(threads[3 * t + 1]);
-    let handle = wide32(threads[3 * t + 2]);
+    let role = u64::from(threads[3 * t]);
+    let domain = u64::from(threads[3 * t + 1]);
+    let handle = u64::from(threads[3 * t + 2]);
     if role == 0 {
         return at;
     }
@@ -154,15 +117,13 @@ fn put_thread(out: &mut [u8], at: usize, threads: &[u32], t: usize) -> usize
     at + THREAD
 }
 
-fn put_threads(out: &mut [u8], at: usize, threads: &[u32])
-    requires { (length threads.now ≡ 192) × (at + length (cat (thread_bytes threads.now) 64) ≤ length out.old) }
+fn put_threads(out: &mut [u8], at: usize, threads: &[u32; THREAD_NUMBERS])
+    requires { at + length (cat (thread_bytes threads.now) 64) ≤ length out.old }
     ensures { out.new ≡ sets out.old at (cat (thread_bytes threads.now) 64) }
 {
-    let mut t: usize = 0;
     let mut to = at;
-    while t < ALL_THREADS {
+    for t in 0..ALL_THREADS {
         to = put_thread(out, to, threads, t);
-        t += 1;
     }
 }
 
@@ -170,30 +131,32 @@ fn put_domain(rec: &mut [u8], slots: &[u32])
     requires { (length rec.old ≡ 192) × (length slots.now ≡ 48) }
     ensures { rec.new ≡ domain_bytes slots.now }
 {
-    let mut k: usize = 0;
-    while k < NUMBERS {
-        let v = wide32(slots[k]);
-        put(rec, 4 * k, 4, v);
-        k += 1;
+    for (k, v) in slots.iter().enumerate() {
+        put(rec, 4 * k, 4, u64::from(*v));
     }
 }
 
 // Each domain is written to a part of the buffer, which is lent on.
-fn put_domains(out: &mut [u8], at: usize, slots: &[u32])
-    requires { (at + 1536 ≤ length out.old) × (length slots.now ≡ 384) }
+fn put_domains(out: &mut [u8], at: usize, slots: &[u32; SLOT_NUMBERS])
+    requires { at + 1536 ≤ length out.old }
     ensures { out.new ≡ sets out.old at (domains_bytes slots.now) }
 {
-    let mut d: usize = 0;
-    while d < ALL_DOMAINS {
+    for d in 0..ALL_DOMAINS {
         let to = at + DOMAIN * d;
         let from = NUMBERS * d;
         put_domain(&mut out[to..to + DOMAIN], &slots[from..from + NUMBERS]);
-        d += 1;
     }
 }
 
 // The whole image, of m objects and n threads.
-fn put_image(objects: &[u64], threads: &[u32], slots: &[u32], out: &mut [u8], m: usize, n: usize)
+fn put_image(
+    objects: &[u64; OBJECT_NUMBERS],
+    threads: &[u32; THREAD_NUMBERS],
+    slots: &[u32; SLOT_NUMBERS],
+    out: &mut [u8],
+    m: usize,
+    n: usize,
+)
     requires { Roomy objects.now threads.now slots.now out.old m n }
     ensures { out.new ≡ sets out.old 0 (encode objects.now threads.now slots.now) }
 {
@@ -205,24 +168,33 @@ fn put_image(objects: &[u64], threads: &[u32], slots: &[u32], out: &mut [u8], m:
     put_domains(out, b, slots);
 }
 
+fn refused(code: u32) -> Answer
+    ensures { result ≡ record { code = code; value = 0 } }
+{
+    Answer { code, value: 0 }
+}
+
 // The writer: any tables, of any length.
 pub fn write(objects: &[u64], threads: &[u32], slots: &[u32], out: &mut [u8]) -> Answer
     ensures { Written objects.now threads.now slots.now out.old out.new result }
 {
     if !rules::keeps(objects, threads, slots) {
-        return Answer {
-            code: answer::VALUE,
-            value: 0,
-        };
+        return refused(answer::VALUE);
     }
+    let Some(objects) = objects.as_array::<OBJECT_NUMBERS>() else {
+        return refused(answer::VALUE);
+    };
+    let Some(threads) = threads.as_array::<THREAD_NUMBERS>() else {
+        return refused(answer::VALUE);
+    };
+    let Some(slots) = slots.as_array::<SLOT_NUMBERS>() else {
+        return refused(answer::VALUE);
+    };
     let m = count_objects(objects);
     let n = count_threads(threads);
     let t = LEAST + OBJECT * m + THREAD * n;
     if out.len() < t {
-        return Answer {
-            code: answer::ROOM,
-            value: 0,
-        };
+        return refused(answer::ROOM);
     }
     put_image(objects, threads, slots, out, m, n);
     Answer {

@@ -1,6 +1,5 @@
-use lib.ListN.{length}
 use Rattle.image.specs.Read.{read_objects, read_threads, read_slots}
-use mathlib.Core.Path.{refl, ap, ◌∙◌}
+use mathlib.Core.Path.{refl, ◌∙◌}
 use native.Mathlib.Omega.{arith}
 use Rattle.image.proofs.Answers.{head_is}
 use Rattle.image.proofs.decode.Goals as goal
@@ -12,13 +11,13 @@ pub get-n-requires : goal.get-n-requires
 get-n-requires c = let h = head_is c.args.image.now c.requires.head in omega arith
 
 pub get_objects-requires : goal.get_objects-requires
-get_objects-requires c = let h = head_is c.args.image.now c.requires.head in let e = c.get-m.ensures.0 in (omega arith, (omega arith, ap length c.requires.objects))
+get_objects-requires c = let h = head_is c.args.image.now c.requires.head in let e = c.get-m.ensures.0 in (omega arith, omega arith)
 
 pub get_threads-requires : goal.get_threads-requires
-get_threads-requires c = let h = head_is c.args.image.now c.requires.head in let e = c.get-m.ensures.0 in let f = c.get-n.ensures.0 in (omega arith, (omega arith, ap length c.requires.threads))
+get_threads-requires c = let h = head_is c.args.image.now c.requires.head in let e = c.get-m.ensures.0 in let f = c.get-n.ensures.0 in (omega arith, omega arith)
 
 pub get_domains-requires : goal.get_domains-requires
-get_domains-requires c = let h = head_is c.args.image.now c.requires.head in let e = c.get-m.ensures.0 in let f = c.get-n.ensures.0 in (omega arith, c.requires.slots)
+get_domains-requires c = let h = head_is c.args.image.now c.requires.head in let e = c.get-m.ensures.0 in let f = c.get-n.ensures.0 in omega arith
 
 pub returns : goal.returns
 unfolding read_objects read_threads read_slots

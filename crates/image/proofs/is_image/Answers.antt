@@ -1,6 +1,7 @@
 use mathlib.Core.Path.{sym, ◌∙◌}
 use lib.Seq.{length-take-le}
 use Rattle.image.proofs.Answers.{long_enough, fits_room, no_image, compared}
+use Rattle.image.proofs.Turns.{eqs_same}
 use Rattle.image.proofs.is_image.Goals as goal
 
 pub returns-then-w-ne-OK : goal.returns-then-w-ne-OK
@@ -16,4 +17,4 @@ pub slice_bounds-there-end : goal.slice_bounds-there-end
 slice_bounds-there-end c = sym (length-take-le _ _ c.requires)
 
 pub returns : goal.returns
-returns c = c.same.ensures ∙ compared _ _ c.write-w.ensures long_enough c.if-w-ne-OK.false
+returns c = c.eq.ensures ∙ eqs_same _ _ ∙ compared _ _ c.write-w.ensures long_enough c.if-w-ne-OK.false

@@ -5,8 +5,7 @@ use native.Mathlib.Omega.{arith}
 use Rattle.image_write.proofs.put_image.Goals as goal
 
 pub put_threads-requires : goal.put_threads-requires
-put_threads-requires c = let h = threads_length c.args.threads.now 64 in
-    (c.requires.tables.threads, omega arith)
+put_threads-requires c = let h = threads_length c.args.threads.now 64 in omega arith
 
 pub returns : goal.returns
 returns c = let a = c.args in
