@@ -1,4 +1,3 @@
 pub mod Ops
-pub mod Tables
 pub mod Picture
 pub mod InRange

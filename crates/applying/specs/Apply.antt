@@ -1,5 +1,5 @@
 -- What a change does to a table of numbers (docs/SPEC.md, 7.95): record i is loaded, rewritten and stored, or each record is, one behind the other.
-use Rattle.std.specs.Prelude.{ℕ, zero, suc, ◌%◌, cond, List, eqb}
+use Rattle.std.specs.Prelude.{ℕ, zero, suc, ◌%◌, List}
 use Rattle.mem_partition.specs.declared.MemPartition.{MemPartition}
 use Rattle.mem_domain.specs.declared.MemDomain.{MemDomain}
 use Rattle.mem_domain.specs.Domain.{slots as SLOTS, added, removed}
@@ -8,7 +8,7 @@ use Rattle.userspace.specs.Userspace.{THREADS, new_object, initiated, uninitiate
 use Rattle.tables.specs.declared.Thread.{Thread}
 use Rattle.tables.specs.Table.{HANDLES, DOMAINS, no_object, object_at, put_object, thread_at, put_thread, partitions_at, put_to}
 use Rattle.decoding.specs.declared.Call.{Call}
-use Rattle.decoding.specs.Calls.{op_of}
+use Rattle.decoding.specs.Calls.{Op, release, sup, create, delete, init, uninit, publish, end, add, remove}
 use Rattle.judging.specs.Judge.{partition_of}
 use Rattle.judging.specs.Change.{Change, none, one, each, object_change, thread_change}
 
@@ -47,30 +47,35 @@ rewritten none x = x
 rewritten (one i f) x = f x
 rewritten (each f) x = f x
 
-unfoldable pub object_after : Call → KernelObject → KernelObject
-object_after c o = rewritten (object_change (op_of c.op) c) o
+unfoldable pub object_after : Op → Call → KernelObject → KernelObject
+object_after o c x = rewritten (object_change o c) x
 
--- of that, by numbers: op 16 creates, op 17 deletes
-unfoldable pub whole_after : Call → KernelObject → KernelObject
-whole_after c o = cond (eqb c.op 16) (new_object (c.b % 256)) (cond (eqb c.op 17) no_object o)
+-- of that: what create and delete leave
+unfoldable pub whole_after : Op → Call → KernelObject → KernelObject
+whole_after (sup create) c x = new_object (c.b % 256)
+whole_after (sup delete) c x = no_object
+whole_after _ c x = x
 
--- and the flags: op 19 initialises, op 20 takes it back, op 22 makes public
-unfoldable pub flags_after : Call → KernelObject → KernelObject
-flags_after c o = cond (eqb c.op 19) (initiated o) (cond (eqb c.op 20) (uninitiated o) (cond (eqb c.op 22) (published o) o))
+-- and the flags: init, uninit and make public
+unfoldable pub flags_after : Op → KernelObject → KernelObject
+flags_after (sup init) x = initiated x
+flags_after (sup uninit) x = uninitiated x
+flags_after (sup publish) x = published x
+flags_after _ x = x
 
-unfoldable pub thread_after : Call → Thread → Thread
-thread_after c r = rewritten (thread_change (op_of c.op) c) r
+-- whose bit a call clears on one object, and whose on each
+unfoldable pub loser : Op → Call → ℕ
+loser release c = c.caller
+loser _ c = c.b
 
--- op 27 adds, op 28 removes
-unfoldable pub domain_after : Call → MemDomain → MemDomain
-domain_after c m =
-    cond (eqb c.op 27) (added m (partition_of c)).domain (cond (eqb c.op 28) (removed m c.b c.c).domain m)
+unfoldable pub ended : Op → Call → ℕ
+ended (sup end) c = c.b
+ended _ c = c.caller
 
--- ---- which objects a change reaches: 0 none, 1 the one that field a names, 2 each
-abbrev pub scope_of : {A : Type 0} → Change A → ℕ
-scope_of none = 0
-scope_of (one i f) = 1
-scope_of (each f) = 2
+unfoldable pub thread_after : Op → Call → Thread → Thread
+thread_after o c r = rewritten (thread_change o c) r
 
-unfoldable pub object_scope : Call → ℕ
-object_scope c = scope_of (object_change (op_of c.op) c)
+unfoldable pub domain_after : Op → Call → MemDomain → MemDomain
+domain_after (sup add) c m = (added m (partition_of c)).domain
+domain_after (sup remove) c m = (removed m c.b c.c).domain
+domain_after _ c m = m

@@ -16,7 +16,7 @@ use Rattle.tables.specs.Table.{sized}
 use Rattle.tables.specs.State.{State, state_of, Fit, objects_back, threads_back, domains_back, flat_objects, flat_threads, flat_domains}
 use Rattle.rules.specs.Rules.{Sound, keeps_test}
 use Rattle.decoding.specs.declared.Call.{Call}
-use Rattle.decoding.specs.Calls.{op_of, call_of}
+use Rattle.decoding.specs.Calls.{Op, unknown, op_of, call_of}
 use Rattle.judging.specs.Judge.{judge, heard, judge_in}
 use Rattle.judging.specs.Change.{object_change, thread_change, domain_change, after, left}
 use Rattle.judging.proofs.Sizes.{sized_by}
@@ -27,24 +27,7 @@ use Rattle.call_laws.proofs.Keeps.{keeps_after}
 use Rattle.call_laws.proofs.Order.{heard_short, heard_long, heard_whole, left_other, left_whole}
 use Rattle.calls.specs.Calls.{answered, Called, part_at, parts_in, put_answer, ran_to, answers_to, run_answer, ran_with, ran_parts, Run}
 use Rattle.calls.specs.declared.Ran.{Ran}
-use Rattle.calls.specs.Steps.{Stepped, Told, Ranged}
-
--- operations 0 to 3 leave threads and slots as they are
-light_threads : (c : Call) (ts : List ℕ) (n : ℕ) → n < 4 → ts ≡ enact_threads (thread_change (op_of n) c) ts
-unfolding op_of thread_change enact_in
-light_threads c ts zero h = refl
-light_threads c ts (suc zero) h = refl
-light_threads c ts (suc (suc zero)) h = refl
-light_threads c ts (suc (suc (suc zero))) h = refl
-light_threads c ts (suc (suc (suc (suc n)))) h = absurd (omega arith)
-
-light_slots : (c : Call) (ss : List ℕ) (n : ℕ) → n < 4 → ss ≡ enact_slots (domain_change (op_of n) c) ss
-unfolding op_of domain_change enact_in
-light_slots c ss zero h = refl
-light_slots c ss (suc zero) h = refl
-light_slots c ss (suc (suc zero)) h = refl
-light_slots c ss (suc (suc (suc zero))) h = refl
-light_slots c ss (suc (suc (suc (suc n)))) h = absurd (omega arith)
+use Rattle.calls.specs.Steps.{Applied, Stepped, Told, Ranged}
 
 module _ {os ts ss : List ℕ} (sound : Sound os ts ss) where
   -- tables that keep the rules have the right lengths
@@ -83,11 +66,15 @@ module _ {os ts ss : List ℕ} (sound : Sound os ts ss) where
           sound = record { fit = fit; keeps = rw state (keeps_after (state_of os ts ss) c sound.keeps) };
         }
 
-    -- operations 0 to 3 change objects alone
-    pub step_light :
-        {os' : List ℕ} → r.code ≡ 0 → c.op < 4 → os' ≡ enact_objects (object_change (op_of c.op) c) os →
-        Stepped (judge (state_of os ts ss) c) (after (state_of os ts ss) c) r os' ts ss
-    step_light z l po = step_done z po (light_threads c ts c.op l) (light_slots c ss c.op l)
+    -- an operation that has a name, applied
+    pub step_named : (o : Op) → op_of c.op ≡ o → {os' ts' ss' : List ℕ} → r.code ≡ 0 → Applied o c os ts ss os' ts' ss'
+        → Stepped (judge (state_of os ts ss) c) (after (state_of os ts ss) c) r os' ts' ss'
+    step_named o n z a = step_done z (rw n a.objects) (rw n a.threads) (rw n a.slots)
+
+    -- one that has none changes nothing
+    pub step_unknown : op_of c.op ≡ unknown → r.code ≡ 0 → Stepped (judge (state_of os ts ss) c) (after (state_of os ts ss) c) r os ts ss
+    unfolding object_change thread_change domain_change enact_in
+    step_unknown u z = step_named unknown u z (record { objects = refl; threads = refl; slots = refl })
 
   -- bytes as they come
   module _ (bs : List ℕ) where

@@ -4,8 +4,17 @@ use Rattle.answer.specs.declared.Answer.{Answer}
 use Rattle.tables.specs.State.{State, state_of}
 use Rattle.rules.specs.Rules.{Sound}
 use Rattle.judging.specs.Judge.{heard}
-use Rattle.judging.specs.Change.{left}
+use Rattle.decoding.specs.declared.Call.{Call}
+use Rattle.decoding.specs.Calls.{Op}
+use Rattle.judging.specs.Change.{object_change, thread_change, domain_change, left}
+use Rattle.applying.specs.Apply.{enact_objects, enact_threads, enact_slots}
 use Rattle.calls.specs.Calls.{put_answer, ran_to, answers_to}
+
+-- the three tables after an operation: each after its change
+pub record Applied (o : Op) (c : Call) (os ts ss os' ts' ss' : List ℕ) : Type 0 where
+  pub objects : os' ≡ enact_objects (object_change o c) os
+  pub threads : ts' ≡ enact_threads (thread_change o c) ts
+  pub slots : ss' ≡ enact_slots (domain_change o c) ss
 
 pub record Stepped (a : Answer) (s : State) (r : Answer) (os ts ss : List ℕ) : Type 0 where
   pub answer : r ≡ a

@@ -1,580 +1,489 @@
 // Judging a call: the answer that docs/SPEC.md, 7, has for it in a state. Nothing is changed here.
 // Promised, for any tables and any call: the answer of the order in judging/specs/Judge.antt; VALUE for tables of other lengths than a state's.
-// Calls that are open to all come first and are judged by one function each: they are what a pump does all day.
+// An answer is no Result: where the memory check refuses, it has a value, the address (judging/specs/Judge.antt, `rule`).
+// Calls that are open to all come first: they are what a pump does all day.
+#![tactic(auto, using(judging::proofs::Order::refuses_by), unfolding(judging::specs::Judge::judge_op, judging::specs::Judge::well_formed, judging::specs::Judge::use_of, judging::specs::Judge::with_handle, judging::specs::Judge::taken_in, judging::specs::Judge::rule, judging::specs::Judge::sup_rule, tables::specs::State::object, tables::specs::State::thread, tables::specs::State::domain))]
+
 ghost use Rattle.std.specs.Prelude.{◌≡◌, true, ◌&&◌, ◌||◌, not, ◌<◌, ◌≤◌, eqb, ltb, leb, get_or, length};
-ghost use Rattle.answer.specs.Answer.{plain};
-ghost use Rattle.tables.specs.Table.{no_object, nobody, Sized};
-ghost use Rattle.tables.specs.State.{objects_of, threads_of, domains_of, state_of};
-ghost use Rattle.userspace.specs.Userspace.{access};
-ghost use Rattle.mem_domain.specs.Scan.{any_to};
+ghost use Rattle.answer.specs.Answer.{plain as plain·spec};
+ghost use Rattle.mem_domain.specs.Domain.{with_count};
+ghost use Rattle.tables.specs.State.{object, thread, domain};
 ghost use Rattle.rules.specs.Rules.{is_live, is_supervisor};
-ghost use Rattle.decoding.specs.Calls.{op_of, validate as validate·op, grant as grant·op, release as release·op, check as check·op, exit as exit·op, sup, create, delete, thread as thread·op};
-ghost use Rattle.judging.specs.Judge.{is_mode, mode_of, well_formed, serves as serves·spec, may_use, rule, judge_op, judge as judge·spec, judge_in, taken_in, serving_at, check_in, exit_in, create_in, named_in, inherit_in, add_in, remove_in, bare_fields, thread_fields};
+ghost use Rattle.decoding.specs.Calls.{named, validate as validate·op, grant as grant·op, release as release·op, check as check·op, exit as exit·op, sup, create as create·op, delete as delete·op, revoke as revoke·op, init as init·op, thread as thread·op, end as end·op, inherit as inherit·op, assign as assign·op, add as add·op, remove as remove·op};
+ghost use Rattle.judging.specs.Judge.{is_mode, mode_of, well_formed, live, supervisor, serves_at, serves, may_use, rule, judge_op, judge as judge·spec, judge_in, taken_in, is_privileged, bare_fields, thread_fields};
+ghost use Rattle.calls.specs.Seen.{seen};
 
 use answer::{Answer, EADDRINUSE, EBADF, EINVAL, EPERM, OK, VALUE};
-use decoding::Call;
+use decoding::{Call, Operation};
+use mem_domain::MemDomain;
 use mem_partition::MemPartition;
-use tables::{DOMAINS, HANDLES, THREADS, Thread};
+use tables::{DOMAINS, HANDLES, OBJECT_NUMBERS, SLOT_NUMBERS, THREAD_NUMBERS, THREADS, Thread};
 use userspace::KernelObject;
 use userspace_names::InitCheck;
 
-fn plain_answer(code: u32) -> Answer
-    ensures { result ≡ plain code }
+// The three tables of a state, each as long as a state's.
+#[derive(Clone, Copy)]
+pub struct Tables<'a> {
+    pub objects: &'a [u64; OBJECT_NUMBERS],
+    pub threads: &'a [u32; THREAD_NUMBERS],
+    pub slots: &'a [u32; SLOT_NUMBERS],
+}
+
+impl Tables<'_> {
+    #[tactic(auto, using(tables::specs::State::object_of_lem), unfolding(tables::specs::State::object))]
+    fn object(self, h: u32) -> KernelObject
+        ensures { result ≡ object (seen self.entry) h }
+    {
+        let objects = self.objects;
+        object_table::load_object(objects, h)
+    }
+
+    #[tactic(auto, using(tables::specs::State::thread_of_lem), unfolding(tables::specs::State::thread))]
+    fn thread(self, t: u32) -> Thread
+        ensures { result ≡ thread (seen self.entry) t }
+    {
+        let threads = self.threads;
+        tables::load_thread(threads, t)
+    }
+
+    #[tactic(auto, using(tables::specs::State::domain_of_lem), unfolding(tables::specs::State::domain))]
+    fn domain(self, d: u32) -> MemDomain
+        requires { d < 8 }
+        ensures { result ≡ with_count (domain (seen self.entry) d) }
+    {
+        let slots = self.slots;
+        tables::load_domain(slots, d)
+    }
+
+    fn is_live(self, t: u32) -> bool
+        ensures { result ≡ live (seen self.entry) t }
+    {
+        self.thread(t).role != 0
+    }
+
+    fn is_supervisor(self, t: u32) -> bool
+        ensures { result ≡ supervisor (seen self.entry) t }
+    {
+        self.thread(t).role == 2
+    }
+
+    fn may_use(self, t: u32, h: u32) -> bool
+        ensures { result ≡ may_use (seen self.entry) t h }
+    {
+        self.object(h).check_access(t, self.is_supervisor(t))
+    }
+
+    fn is_taken(self, h: u32) -> bool
+        ensures { result ≡ taken_in (seen self.entry).objects h }
+    {
+        h < HANDLES && self.object(h).obj_type != 0
+    }
+
+    // Whether thread t lives and has object h as its handle.
+    fn is_serving(self, t: u32, h: u32) -> bool
+        ensures { result ≡ serves_at (seen self.entry) h t }
+    {
+        let who = self.thread(t);
+        who.role != 0 && who.handle == h
+    }
+
+    // Whether object h serves a live thread.
+    fn serves(self, h: u32) -> bool
+        ensures { result ≡ serves (seen self.entry) h }
+    {
+        for t in 0..THREADS {
+            if self.is_serving(t, h) {
+                return true;
+            }
+        }
+        false
+    }
+}
+
+// An answer with no value.
+pub fn plain(code: u32) -> Answer
+    ensures { result ≡ plain·spec code }
 {
     Answer { code, value: 0 }
 }
 
-fn object_in(objects: &[u64], h: u32) -> KernelObject
-    requires { length objects.now ≡ 512 }
-    ensures { result ≡ get_or (objects_of objects.now) h no_object }
-{
-    object_table::load_object(objects, h)
-}
-
-fn thread_in(threads: &[u32], t: u32) -> Thread
-    requires { length threads.now ≡ 192 }
-    ensures { result ≡ get_or (threads_of threads.now) t nobody }
-{
-    tables::load_thread(threads, t)
-}
-
-fn is_live(threads: &[u32], t: u32) -> bool
-    requires { length threads.now ≡ 192 }
-    ensures { result ≡ is_live (get_or (threads_of threads.now) t nobody) }
-{
-    let who = thread_in(threads, t);
-    who.role != 0
-}
-
-fn is_supervisor(threads: &[u32], t: u32) -> bool
-    requires { length threads.now ≡ 192 }
-    ensures { result ≡ is_supervisor (get_or (threads_of threads.now) t nobody) }
-{
-    let who = thread_in(threads, t);
-    who.role == 2
-}
-
-fn may_use(objects: &[u64], threads: &[u32], t: u32, h: u32) -> bool
-    requires { (length objects.now ≡ 512) × (length threads.now ≡ 192) }
-    ensures { result ≡ access (get_or (objects_of objects.now) h no_object) t (is_supervisor (get_or (threads_of threads.now) t nobody)) }
-{
-    let o = object_in(objects, h);
-    o.check_access(t, is_supervisor(threads, t))
-}
-
-fn is_taken(objects: &[u64], h: u32) -> bool
-    requires { length objects.now ≡ 512 }
-    ensures { result ≡ taken_in (objects_of objects.now) h }
-{
-    if h < HANDLES {
-        let o = object_in(objects, h);
-        return o.obj_type != 0;
-    }
-    false
-}
-
-// Whether thread t lives and has object h as its handle.
-fn is_serving(threads: &[u32], t: u32, h: u32) -> bool
-    requires { length threads.now ≡ 192 }
-    ensures { result ≡ serving_at (threads_of threads.now) h t }
-{
-    let who = thread_in(threads, t);
-    if who.role != 0 {
-        return who.handle == h;
-    }
-    false
-}
-
-// Whether object h serves a live thread.
-fn serves(threads: &[u32], h: u32) -> bool
-    requires { length threads.now ≡ 192 }
-    ensures { result ≡ any_to (serving_at (threads_of threads.now) h) 64 }
-{
-    let mut t: u32 = 0;
-    while t < THREADS {
-        if is_serving(threads, t, h) {
-            return true;
-        }
-        t += 1;
-    }
-    false
-}
+// ---- fields
 
 // Fields c and d unused.
 fn no_more(c: Call) -> bool
     ensures { result ≡ eqb c.c 0 && eqb c.d 0 }
 {
-    if c.c == 0 {
-        return c.d == 0;
-    }
-    false
+    c.c == 0 && c.d == 0
 }
 
 // A handle and nothing else.
 fn bare_fields(c: Call) -> bool
     ensures { result ≡ bare_fields c }
 {
-    if c.b == 0 {
-        return no_more(c);
-    }
-    false
+    c.b == 0 && no_more(c)
 }
 
 // A handle and a thread.
 fn thread_fields(c: Call) -> bool
     ensures { result ≡ thread_fields c }
 {
-    if c.b < THREADS {
-        return no_more(c);
-    }
-    false
+    c.b < THREADS && no_more(c)
 }
 
 fn is_mode(n: u32) -> bool
     ensures { result ≡ is_mode n }
 {
-    if n == 0 {
-        return true;
-    }
-    if n == 1 {
-        return true;
-    }
-    n == 4294967295
+    n == 0 || n == 1 || n == 4294967295
 }
 
 fn mode_of(n: u32) -> InitCheck
     ensures { result ≡ mode_of n }
 {
-    if n == 0 {
-        return InitCheck::MustBeInit;
+    match n {
+        0 => InitCheck::MustBeInit,
+        1 => InitCheck::DontCare,
+        _ => InitCheck::MustNotBeInit,
     }
-    if n == 1 {
-        return InitCheck::DontCare;
-    }
-    InitCheck::MustNotBeInit
 }
 
-fn validate_fields(c: Call) -> bool
-    ensures { result ≡ well_formed validate·op c }
-{
-    if c.b < 16 {
-        if is_mode(c.c) {
-            return c.d == 0;
-        }
-    }
-    false
-}
-
-// A type that was found below 16 is stored in a byte: the cast loses nothing.
-fn type_byte(n: u32) -> u8
-    requires { n < 16 }
-    ensures { result ≡ n }
-{
-    n as u8
-}
-
-fn validate_rule(objects: &[u64], threads: &[u32], slots: &[u32], c: Call) -> Answer
-    requires { Sized objects.now threads.now slots.now × (c.b < 16) }
-    ensures { result ≡ rule validate·op (state_of objects.now threads.now slots.now) c }
-{
-    let o = object_in(objects, c.a);
-    let supervisor = is_supervisor(threads, c.caller);
-    let mode = mode_of(c.c);
-    let kind = type_byte(c.b);
-    plain_answer(userspace_decide::validated_number(o.validate(kind, c.caller, supervisor, mode)))
-}
-
-fn validate(objects: &[u64], threads: &[u32], slots: &[u32], c: Call) -> Answer
-    requires { Sized objects.now threads.now slots.now }
-    ensures { result ≡ judge_op validate·op (state_of objects.now threads.now slots.now) c }
-{
-    if !validate_fields(c) {
-        return plain_answer(EINVAL);
-    }
-    if !is_taken(objects, c.a) {
-        return plain_answer(EBADF);
-    }
-    validate_rule(objects, threads, slots, c)
-}
-
-fn grant_rule(objects: &[u64], threads: &[u32], slots: &[u32], c: Call) -> Answer
-    requires { Sized objects.now threads.now slots.now }
-    ensures { result ≡ rule grant·op (state_of objects.now threads.now slots.now) c }
-{
-    if !may_use(objects, threads, c.caller, c.a) {
-        return plain_answer(EPERM);
-    }
-    let target = thread_in(threads, c.b);
-    if target.role == 0 {
-        return plain_answer(EINVAL);
-    }
-    if !may_use(objects, threads, c.caller, target.handle) {
-        return plain_answer(EPERM);
-    }
-    plain_answer(OK)
-}
-
-fn grant(objects: &[u64], threads: &[u32], slots: &[u32], c: Call) -> Answer
-    requires { Sized objects.now threads.now slots.now }
-    ensures { result ≡ judge_op grant·op (state_of objects.now threads.now slots.now) c }
-{
-    if !thread_fields(c) {
-        return plain_answer(EINVAL);
-    }
-    if !is_taken(objects, c.a) {
-        return plain_answer(EBADF);
-    }
-    grant_rule(objects, threads, slots, c)
-}
-
-fn release(objects: &[u64], threads: &[u32], slots: &[u32], c: Call) -> Answer
-    requires { Sized objects.now threads.now slots.now }
-    ensures { result ≡ judge_op release·op (state_of objects.now threads.now slots.now) c }
-{
-    if !bare_fields(c) {
-        return plain_answer(EINVAL);
-    }
-    if !is_taken(objects, c.a) {
-        return plain_answer(EBADF);
-    }
-    if !may_use(objects, threads, c.caller, c.a) {
-        return plain_answer(EPERM);
-    }
-    plain_answer(OK)
-}
-
-fn check(threads: &[u32], slots: &[u32], c: Call) -> Answer
-    requires { (length threads.now ≡ 192) × (length slots.now ≡ 384) }
-    ensures { result ≡ check_in (threads_of threads.now) (domains_of slots.now) c }
-{
-    if c.a != 0 {
-        return plain_answer(EINVAL);
-    }
-    if 1 < c.d {
-        return plain_answer(EINVAL);
-    }
-    let me = thread_in(threads, c.caller);
-    mem_check::memory_check(slots, me.domain, me.role == 2, c.b, c.c, c.d == 1)
-}
-
-fn exit(c: Call) -> Answer
-    ensures { result ≡ exit_in c }
-{
-    if c.a != 0 {
-        return plain_answer(EINVAL);
-    }
-    if !bare_fields(c) {
-        return plain_answer(EINVAL);
-    }
-    plain_answer(OK)
-}
-
-fn create_fields(c: Call) -> bool
-    ensures { result ≡ well_formed (sup create) c }
-{
-    if 0 < c.b {
-        if c.b < 16 {
-            return no_more(c);
-        }
-    }
-    false
-}
-
+// A handle, a thread and a rank.
 fn new_thread_fields(c: Call) -> bool
     ensures { result ≡ well_formed (sup thread·op) c }
 {
-    if c.b < THREADS {
-        if c.c < 2 {
-            return c.d == 0;
-        }
-    }
-    false
-}
-
-// The supervisors' calls that name a handle.
-fn handle_fields(c: Call) -> bool
-    requires { (16 ≤ c.op) × (c.op ≤ 23) }
-    ensures { result ≡ well_formed (op_of c.op) c }
-{
-    if c.op == 16 {
-        return create_fields(c);
-    }
-    if c.op == 18 {
-        return thread_fields(c);
-    }
-    if c.op == 23 {
-        return new_thread_fields(c);
-    }
-    bare_fields(c)
-}
-
-fn inherit_fields(c: Call) -> bool
-    ensures { result ≡ ltb c.b 64 && (ltb c.c 64 && eqb c.d 0) }
-{
-    if c.b < THREADS {
-        if c.c < THREADS {
-            return c.d == 0;
-        }
-    }
-    false
+    c.b < THREADS && c.c < 2 && c.d == 0
 }
 
 fn is_home(d: u32) -> bool
     ensures { result ≡ ltb d 8 || eqb d 255 }
 {
-    if d < DOMAINS {
-        return true;
-    }
-    d == 255
+    d < DOMAINS || d == 255
 }
 
-fn assign_fields(c: Call) -> bool
-    ensures { result ≡ ltb c.b 64 && ((ltb c.c 8 || eqb c.c 255) && eqb c.d 0) }
+// ---- the calls that are open to all
+
+// A type that was found below 16 is stored in a byte: the cast loses nothing.
+fn validate_rule(t: Tables, c: Call) -> Answer
+    requires { c.b < 16 }
+    ensures { result ≡ rule validate·op (seen t.entry) c }
 {
-    if c.b < THREADS {
-        if is_home(c.c) {
-            return c.d == 0;
-        }
-    }
-    false
+    let supervisor = t.is_supervisor(c.caller);
+    let found = t
+        .object(c.a)
+        .validate(c.b as u8, c.caller, supervisor, mode_of(c.c));
+    plain(userspace_decide::validated_number(found))
 }
 
-// The supervisors' calls on threads that name no handle.
-fn people_fields(c: Call) -> bool
-    requires { (24 ≤ c.op) × (c.op ≤ 26) }
-    ensures { result ≡ well_formed (op_of c.op) c }
+fn validate(t: Tables, c: Call) -> Answer
+    ensures { result ≡ judge_op validate·op (seen t.entry) c }
 {
-    if c.a != 0 {
-        return false;
+    if !(c.b < 16 && is_mode(c.c) && c.d == 0) {
+        return plain(EINVAL);
     }
-    if c.op == 24 {
-        return thread_fields(c);
+    if !t.is_taken(c.a) {
+        return plain(EBADF);
     }
-    if c.op == 25 {
-        return inherit_fields(c);
-    }
-    assign_fields(c)
+    validate_rule(t, c)
 }
 
-fn create_thread_rule(objects: &[u64], threads: &[u32], slots: &[u32], c: Call) -> Answer
-    requires { Sized objects.now threads.now slots.now }
-    ensures { result ≡ rule (sup thread·op) (state_of objects.now threads.now slots.now) c }
+fn grant_rule(t: Tables, c: Call) -> Answer
+    ensures { result ≡ rule grant·op (seen t.entry) c }
 {
-    if is_live(threads, c.b) {
-        return plain_answer(EADDRINUSE);
+    if !t.may_use(c.caller, c.a) {
+        return plain(EPERM);
     }
-    let o = object_in(objects, c.a);
-    if o.obj_type != 1 {
-        return plain_answer(EBADF);
+    let target = t.thread(c.b);
+    if target.role == 0 {
+        return plain(EINVAL);
     }
-    if serves(threads, c.a) {
-        return plain_answer(EADDRINUSE);
+    if !t.may_use(c.caller, target.handle) {
+        return plain(EPERM);
     }
-    plain_answer(OK)
+    plain(OK)
 }
 
-fn delete_rule(objects: &[u64], threads: &[u32], slots: &[u32], c: Call) -> Answer
-    requires { Sized objects.now threads.now slots.now }
-    ensures { result ≡ rule (sup delete) (state_of objects.now threads.now slots.now) c }
+fn grant(t: Tables, c: Call) -> Answer
+    ensures { result ≡ judge_op grant·op (seen t.entry) c }
 {
-    if serves(threads, c.a) {
-        return plain_answer(EADDRINUSE);
+    if !thread_fields(c) {
+        return plain(EINVAL);
     }
-    plain_answer(OK)
+    if !t.is_taken(c.a) {
+        return plain(EBADF);
+    }
+    grant_rule(t, c)
 }
 
-// A thread that is named has to live.
-fn named_rule(threads: &[u32], t: u32) -> Answer
-    requires { length threads.now ≡ 192 }
-    ensures { result ≡ named_in (threads_of threads.now) t }
+fn release(t: Tables, c: Call) -> Answer
+    ensures { result ≡ judge_op release·op (seen t.entry) c }
 {
-    if !is_live(threads, t) {
-        return plain_answer(EINVAL);
+    if !bare_fields(c) {
+        return plain(EINVAL);
     }
-    plain_answer(OK)
+    if !t.is_taken(c.a) {
+        return plain(EBADF);
+    }
+    if !t.may_use(c.caller, c.a) {
+        return plain(EPERM);
+    }
+    plain(OK)
 }
 
-fn taken_rule(objects: &[u64], threads: &[u32], slots: &[u32], c: Call) -> Answer
-    requires { Sized objects.now threads.now slots.now × ((17 ≤ c.op) × (c.op ≤ 23)) }
-    ensures { result ≡ rule (op_of c.op) (state_of objects.now threads.now slots.now) c }
+#[tactic(auto, using(judging::proofs::Order::refuses_by, mem_check::proofs::Memory::slots_in_lem), unfolding(judging::specs::Judge::judge_op, judging::specs::Judge::well_formed, judging::specs::Judge::use_of, judging::specs::Judge::with_handle, judging::specs::Judge::rule, tables::specs::State::thread, tables::specs::State::domain))]
+fn check(t: Tables, c: Call) -> Answer
+    ensures { result ≡ judge_op check·op (seen t.entry) c }
 {
-    if c.op == 17 {
-        return delete_rule(objects, threads, slots, c);
+    if c.a != 0 || 1 < c.d {
+        return plain(EINVAL);
     }
-    if c.op == 18 {
-        return named_rule(threads, c.b);
-    }
-    if c.op == 23 {
-        return create_thread_rule(objects, threads, slots, c);
-    }
-    plain_answer(OK)
+    let slots = t.slots;
+    let me = t.thread(c.caller);
+    mem_check::memory_check(slots, me.domain, me.role == 2, c.b, c.c, c.d == 1)
 }
 
-fn create_rule(objects: &[u64], h: u32) -> Answer
-    requires { length objects.now ≡ 512 }
-    ensures { result ≡ create_in (objects_of objects.now) h }
+fn exit(t: Tables, c: Call) -> Answer
+    ensures { result ≡ judge_op exit·op (seen t.entry) c }
 {
-    if HANDLES <= h {
-        return plain_answer(EBADF);
+    if c.a != 0 || !bare_fields(c) {
+        return plain(EINVAL);
     }
-    let o = object_in(objects, h);
-    if o.obj_type != 0 {
-        return plain_answer(EADDRINUSE);
-    }
-    plain_answer(OK)
+    plain(OK)
 }
 
-// The supervisors' calls that name a handle.
-fn handle_call(objects: &[u64], threads: &[u32], slots: &[u32], c: Call) -> Answer
-    requires { Sized objects.now threads.now slots.now × ((16 ≤ c.op) × (c.op ≤ 23)) }
-    ensures { result ≡ judge_op (op_of c.op) (state_of objects.now threads.now slots.now) c }
+// ---- the calls of supervisors that name a handle
+
+fn create(t: Tables, c: Call) -> Answer
+    ensures { result ≡ judge_op (sup create·op) (seen t.entry) c }
 {
-    if !handle_fields(c) {
-        return plain_answer(EINVAL);
+    if c.b == 0 || 15 < c.b || !no_more(c) {
+        return plain(EINVAL);
     }
-    if c.op == 16 {
-        return create_rule(objects, c.a);
+    if HANDLES <= c.a {
+        return plain(EBADF);
     }
-    if !is_taken(objects, c.a) {
-        return plain_answer(EBADF);
+    if t.object(c.a).obj_type != 0 {
+        return plain(EADDRINUSE);
     }
-    taken_rule(objects, threads, slots, c)
+    plain(OK)
 }
 
-fn inherit_rule(threads: &[u32], parent: u32, child: u32) -> Answer
-    requires { length threads.now ≡ 192 }
-    ensures { result ≡ inherit_in (threads_of threads.now) parent child }
+fn delete(t: Tables, c: Call) -> Answer
+    ensures { result ≡ judge_op (sup delete·op) (seen t.entry) c }
 {
-    if !is_live(threads, parent) {
-        return plain_answer(EINVAL);
+    if !bare_fields(c) {
+        return plain(EINVAL);
     }
-    named_rule(threads, child)
+    if !t.is_taken(c.a) {
+        return plain(EBADF);
+    }
+    if t.serves(c.a) {
+        return plain(EADDRINUSE);
+    }
+    plain(OK)
 }
 
-// The supervisors' calls on threads that name no handle.
-fn people_call(objects: &[u64], threads: &[u32], slots: &[u32], c: Call) -> Answer
-    requires { Sized objects.now threads.now slots.now × ((24 ≤ c.op) × (c.op ≤ 26)) }
-    ensures { result ≡ judge_op (op_of c.op) (state_of objects.now threads.now slots.now) c }
+fn revoke(t: Tables, c: Call) -> Answer
+    ensures { result ≡ judge_op (sup revoke·op) (seen t.entry) c }
 {
-    if !people_fields(c) {
-        return plain_answer(EINVAL);
+    if !thread_fields(c) {
+        return plain(EINVAL);
     }
-    if c.op == 25 {
-        return inherit_rule(threads, c.b, c.c);
+    if !t.is_taken(c.a) {
+        return plain(EBADF);
     }
-    named_rule(threads, c.b)
+    if !t.is_live(c.b) {
+        return plain(EINVAL);
+    }
+    plain(OK)
 }
 
-fn add_call(slots: &[u32], c: Call) -> Answer
-    requires { length slots.now ≡ 384 }
-    ensures { result ≡ add_in (domains_of slots.now) c }
+// Init, uninit, recycle and make public: a taken handle is all that they want.
+fn bare(t: Tables, c: Call) -> Answer
+    ensures { result ≡ judge_op (sup init·op) (seen t.entry) c }
 {
-    if DOMAINS <= c.a {
-        return plain_answer(EINVAL);
+    if !bare_fields(c) {
+        return plain(EINVAL);
     }
-    if !domain_rules::attr_ok(c.d) {
-        return plain_answer(EINVAL);
+    if !t.is_taken(c.a) {
+        return plain(EBADF);
     }
-    let d = tables::load_domain(slots, c.a);
+    plain(OK)
+}
+
+fn create_thread_rule(t: Tables, c: Call) -> Answer
+    ensures { result ≡ rule (sup thread·op) (seen t.entry) c }
+{
+    if t.is_live(c.b) {
+        return plain(EADDRINUSE);
+    }
+    if t.object(c.a).obj_type != 1 {
+        return plain(EBADF);
+    }
+    if t.serves(c.a) {
+        return plain(EADDRINUSE);
+    }
+    plain(OK)
+}
+
+fn create_thread(t: Tables, c: Call) -> Answer
+    ensures { result ≡ judge_op (sup thread·op) (seen t.entry) c }
+{
+    if !new_thread_fields(c) {
+        return plain(EINVAL);
+    }
+    if !t.is_taken(c.a) {
+        return plain(EBADF);
+    }
+    create_thread_rule(t, c)
+}
+
+// ---- the calls of supervisors on threads and domains
+
+fn end(t: Tables, c: Call) -> Answer
+    ensures { result ≡ judge_op (sup end·op) (seen t.entry) c }
+{
+    if c.a != 0 || !thread_fields(c) {
+        return plain(EINVAL);
+    }
+    if !t.is_live(c.b) {
+        return plain(EINVAL);
+    }
+    plain(OK)
+}
+
+fn inherit(t: Tables, c: Call) -> Answer
+    ensures { result ≡ judge_op (sup inherit·op) (seen t.entry) c }
+{
+    if c.a != 0 || THREADS <= c.b || THREADS <= c.c || c.d != 0 {
+        return plain(EINVAL);
+    }
+    if !t.is_live(c.b) || !t.is_live(c.c) {
+        return plain(EINVAL);
+    }
+    plain(OK)
+}
+
+fn assign(t: Tables, c: Call) -> Answer
+    ensures { result ≡ judge_op (sup assign·op) (seen t.entry) c }
+{
+    if c.a != 0 || THREADS <= c.b || !is_home(c.c) || c.d != 0 {
+        return plain(EINVAL);
+    }
+    if !t.is_live(c.b) {
+        return plain(EINVAL);
+    }
+    plain(OK)
+}
+
+fn add(t: Tables, c: Call) -> Answer
+    ensures { result ≡ judge_op (sup add·op) (seen t.entry) c }
+{
+    if DOMAINS <= c.a || !domain_rules::attr_ok(c.d) {
+        return plain(EINVAL);
+    }
     let p = MemPartition {
         start: c.b,
         size: c.c,
         attr: c.d,
     };
-    let r = d.add_partition(p);
+    let r = t.domain(c.a).add_partition(p);
     Answer {
         code: r.code,
         value: r.value,
     }
 }
 
-fn remove_call(slots: &[u32], c: Call) -> Answer
-    requires { length slots.now ≡ 384 }
-    ensures { result ≡ remove_in (domains_of slots.now) c }
+fn remove(t: Tables, c: Call) -> Answer
+    ensures { result ≡ judge_op (sup remove·op) (seen t.entry) c }
 {
-    if DOMAINS <= c.a {
-        return plain_answer(EINVAL);
+    if DOMAINS <= c.a || c.d != 0 {
+        return plain(EINVAL);
     }
-    if c.d != 0 {
-        return plain_answer(EINVAL);
-    }
-    let d = tables::load_domain(slots, c.a);
-    let r = d.remove_partition(c.b, c.c);
+    let r = t.domain(c.a).remove_partition(c.b, c.c);
     Answer {
         code: r.code,
         value: r.value,
     }
 }
 
-// The calls of supervisors only.
-fn supervisor_call(objects: &[u64], threads: &[u32], slots: &[u32], c: Call) -> Answer
-    requires { Sized objects.now threads.now slots.now × ((16 ≤ c.op) × (c.op ≤ 28)) }
-    ensures { result ≡ judge_op (op_of c.op) (state_of objects.now threads.now slots.now) c }
+// ---- the order
+
+#[tactic(auto, unfolding(judging::specs::Judge::is_privileged))]
+fn is_privileged(operation: Operation) -> bool
+    ensures { result ≡ is_privileged (named operation) }
 {
-    if c.op < 24 {
-        return handle_call(objects, threads, slots, c);
+    match operation {
+        Operation::Validate => false,
+        Operation::Grant => false,
+        Operation::Release => false,
+        Operation::Check => false,
+        Operation::Exit => false,
+        _ => true,
     }
-    if c.op < 27 {
-        return people_call(objects, threads, slots, c);
-    }
-    if c.op == 27 {
-        return add_call(slots, c);
-    }
-    remove_call(slots, c)
 }
 
-// The calls that are open to all.
-fn open_call(objects: &[u64], threads: &[u32], slots: &[u32], c: Call) -> Answer
-    requires { Sized objects.now threads.now slots.now × (c.op < 5) }
-    ensures { result ≡ judge_op (op_of c.op) (state_of objects.now threads.now slots.now) c }
+// Fields, handle and rule.
+#[tactic(auto, unfolding(judging::specs::Judge::judge_op, judging::specs::Judge::well_formed, judging::specs::Judge::use_of, judging::specs::Judge::rule, judging::specs::Judge::sup_rule))]
+fn judge_operation(t: Tables, operation: Operation, c: Call) -> Answer
+    ensures { result ≡ judge_op (named operation) (seen t.entry) c }
 {
-    if c.op == 0 {
-        return validate(objects, threads, slots, c);
+    match operation {
+        Operation::Validate => validate(t, c),
+        Operation::Grant => grant(t, c),
+        Operation::Check => check(t, c),
+        Operation::Release => release(t, c),
+        Operation::Exit => exit(t, c),
+        Operation::Create => create(t, c),
+        Operation::Delete => delete(t, c),
+        Operation::Revoke => revoke(t, c),
+        Operation::Init => bare(t, c),
+        Operation::Uninit => bare(t, c),
+        Operation::Recycle => bare(t, c),
+        Operation::MakePublic => bare(t, c),
+        Operation::CreateThread => create_thread(t, c),
+        Operation::End => end(t, c),
+        Operation::Inherit => inherit(t, c),
+        Operation::Assign => assign(t, c),
+        Operation::Add => add(t, c),
+        Operation::Remove => remove(t, c),
     }
-    if c.op == 1 {
-        return grant(objects, threads, slots, c);
-    }
-    if c.op == 3 {
-        return check(threads, slots, c);
-    }
-    if c.op == 2 {
-        return release(objects, threads, slots, c);
-    }
-    exit(c)
 }
 
-fn judge_sized(objects: &[u64], threads: &[u32], slots: &[u32], c: Call) -> Answer
-    requires { Sized objects.now threads.now slots.now }
-    ensures { result ≡ judge·spec (state_of objects.now threads.now slots.now) c }
+fn judge_state(t: Tables, c: Call) -> Answer
+    ensures { result ≡ judge·spec (seen t.entry) c }
 {
     if THREADS <= c.caller {
-        return plain_answer(EINVAL);
+        return plain(EINVAL);
     }
-    let me = thread_in(threads, c.caller);
+    let me = t.thread(c.caller);
     if me.role == 0 {
-        return plain_answer(EPERM);
+        return plain(EPERM);
     }
-    if c.op < 5 {
-        return open_call(objects, threads, slots, c);
+    let Some(operation) = decoding::operation_of(c.op) else {
+        return plain(EINVAL);
+    };
+    if is_privileged(operation) && me.role != 2 {
+        return plain(EPERM);
     }
-    if c.op < 16 {
-        return plain_answer(EINVAL);
-    }
-    if 28 < c.op {
-        return plain_answer(EINVAL);
-    }
-    if me.role != 2 {
-        return plain_answer(EPERM);
-    }
-    supervisor_call(&objects[..], &threads[..], &slots[..], c)
+    judge_operation(t, operation, c)
 }
 
 // The answer to a call: of tables with any content and any lengths. Whether the state keeps the rules is not asked here: `call` and `run` have asked it.
 pub fn judge(objects: &[u64], threads: &[u32], slots: &[u32], c: Call) -> Answer
     ensures { result ≡ judge_in objects.now threads.now slots.now c }
 {
-    if !tables::is_sized(objects.len(), threads.len(), slots.len()) {
-        return plain_answer(VALUE);
-    }
-    judge_sized(objects, threads, slots, c)
+    let Ok(objects) = objects.try_into() else {
+        return plain(VALUE);
+    };
+    let Ok(threads) = threads.try_into() else {
+        return plain(VALUE);
+    };
+    let Ok(slots) = slots.try_into() else {
+        return plain(VALUE);
+    };
+    let state = Tables {
+        objects,
+        threads,
+        slots,
+    };
+    judge_state(state, c)
 }

@@ -2,13 +2,15 @@
 // judged, and any call on any tables changes exactly what applying/specs/Apply.antt says; behind a table's end nothing is stored.
 // Promised: each table after is `enact..` of the call's change (judging/specs/Change.antt). On a state's tables that is the state after
 // (applying/proofs/Picture.antt: `applied`, `fit_after`). The code here is that of threads and domains; that of objects is enacting_objects.rt.
+#![tactic(auto, unfolding(applying::specs::Apply::enact_in, applying::specs::Apply::thread_after, applying::specs::Apply::domain_after, judging::specs::Change::thread_change, judging::specs::Change::domain_change))]
+
 ghost use Rattle.std.specs.Prelude.{◌≡◌, cond, eqb};
 ghost use Rattle.tables.specs.Table.{nobody as nobody·spec, thread_at, put_thread, domain_at, put_domain};
-ghost use Rattle.decoding.specs.Calls.{op_of};
+ghost use Rattle.decoding.specs.Calls.{named};
 ghost use Rattle.judging.specs.Change.{thread_change, domain_change};
 ghost use Rattle.applying.specs.Apply.{enact_threads, enact_slots, thread_after, domain_after};
 
-use decoding::Call;
+use decoding::{Call, Operation};
 use mem_domain::MemDomain;
 use mem_partition::MemPartition;
 use tables::Thread;
@@ -28,91 +30,77 @@ fn nobody() -> Thread
 fn role_of(supervisor: u32) -> u32
     ensures { result ≡ cond (eqb supervisor 1) 2 1 }
 {
-    if supervisor == 1 {
-        return 2;
-    }
-    1
+    if supervisor == 1 { 2 } else { 1 }
 }
 
-fn thread_after(c: Call, r: Thread) -> Thread
-    ensures { result ≡ thread_after c r }
+fn thread_after(operation: Operation, c: Call, r: Thread) -> Thread
+    ensures { result ≡ thread_after (named operation) c r }
 {
-    let op = c.op;
-    match op {
-        4 => nobody(),
-        23 => Thread {
+    match operation {
+        Operation::Exit => nobody(),
+        Operation::CreateThread => Thread {
             role: role_of(c.c),
             domain: 255,
             handle: c.a,
         },
-        24 => nobody(),
-        26 => Thread {
-            role: r.role,
-            domain: c.c,
-            handle: r.handle,
-        },
+        Operation::End => nobody(),
+        Operation::Assign => Thread { domain: c.c, ..r },
         _ => r,
     }
 }
 
-fn change_thread(threads: &mut [u32], t: u32, c: Call)
-    ensures { threads.new ≡ put_thread threads.old t (thread_after c (thread_at threads.old t)) }
+fn change_thread(threads: &mut [u32], t: u32, operation: Operation, c: Call)
+    ensures { threads.new ≡ put_thread threads.old t (thread_after (named operation) c (thread_at threads.old t)) }
 {
     let r = tables::load_thread(threads, t);
-    let next = thread_after(c, r);
-    tables::store_thread(threads, t, next);
+    tables::store_thread(threads, t, thread_after(operation, c, r));
 }
 
 // Exit names the caller, the others field b.
-pub fn change_threads(threads: &mut [u32], c: Call)
-    ensures { threads.new ≡ enact_threads (thread_change (op_of c.op) c) threads.old }
+pub fn change_threads(threads: &mut [u32], operation: Operation, c: Call)
+    ensures { threads.new ≡ enact_threads (thread_change (named operation) c) threads.old }
 {
-    let op = c.op;
-    match op {
-        4 => change_thread(threads, c.caller, c),
-        23 => change_thread(threads, c.b, c),
-        24 => change_thread(threads, c.b, c),
-        26 => change_thread(threads, c.b, c),
+    match operation {
+        Operation::Exit => change_thread(threads, c.caller, operation, c),
+        Operation::CreateThread => change_thread(threads, c.b, operation, c),
+        Operation::End => change_thread(threads, c.b, operation, c),
+        Operation::Assign => change_thread(threads, c.b, operation, c),
         _ => {}
     }
 }
 
 // ---- domains
 
-fn domain_after(c: Call, m: MemDomain) -> MemDomain
-    ensures { result ≡ domain_after c m }
+fn domain_after(operation: Operation, c: Call, m: MemDomain) -> MemDomain
+    ensures { result ≡ domain_after (named operation) c m }
 {
-    if c.op == 27 {
-        let part = MemPartition {
-            start: c.b,
-            size: c.c,
-            attr: c.d,
-        };
-        let changed = m.add_partition(part);
-        return changed.domain;
+    match operation {
+        Operation::Add => {
+            let part = MemPartition {
+                start: c.b,
+                size: c.c,
+                attr: c.d,
+            };
+            m.add_partition(part).domain
+        }
+        Operation::Remove => m.remove_partition(c.b, c.c).domain,
+        _ => m,
     }
-    if c.op == 28 {
-        let changed = m.remove_partition(c.b, c.c);
-        return changed.domain;
-    }
-    m
 }
 
-fn change_domain(slots: &mut [u32], d: u32, c: Call)
-    ensures { slots.new ≡ put_domain slots.old d (domain_after c (domain_at slots.old d)) }
+fn change_domain(slots: &mut [u32], d: u32, operation: Operation, c: Call)
+    ensures { slots.new ≡ put_domain slots.old d (domain_after (named operation) c (domain_at slots.old d)) }
 {
     let m = tables::load_domain(slots, d);
-    let next = domain_after(c, m);
-    tables::store_domain(slots, d, next);
+    tables::store_domain(slots, d, domain_after(operation, c, m));
 }
 
-pub fn change_slots(slots: &mut [u32], c: Call)
-    ensures { slots.new ≡ enact_slots (domain_change (op_of c.op) c) slots.old }
+pub fn change_slots(slots: &mut [u32], operation: Operation, c: Call)
+    ensures { slots.new ≡ enact_slots (domain_change (named operation) c) slots.old }
 {
-    let op = c.op;
-    match op {
-        27 => change_domain(slots, c.a, c),
-        28 => change_domain(slots, c.a, c),
+    match operation {
+        Operation::Add => change_domain(slots, c.a, operation, c),
+        Operation::Remove => change_domain(slots, c.a, operation, c),
         _ => {}
     }
 }

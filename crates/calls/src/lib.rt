@@ -8,13 +8,15 @@
 ghost use Rattle.std.specs.Prelude.{◌≡◌, ◌+◌, ◌*◌, ◌<◌, ◌≤◌, ◌^◌, length};
 ghost use Rattle.tables.specs.State.{state_of};
 ghost use Rattle.rules.specs.Rules.{Sound};
+ghost use Rattle.decoding.specs.Calls.{named};
 ghost use Rattle.judging.specs.Judge.{judge as judge·spec, heard};
 ghost use Rattle.judging.specs.Change.{after, left};
 ghost use Rattle.calls.specs.Calls.{Called, Run, parts_in, part_at, put_answer};
-ghost use Rattle.calls.specs.Steps.{Stepped, Told, Ranged};
+ghost use Rattle.calls.specs.Steps.{Applied, Stepped, Told, Ranged};
 
 use answer::Answer;
-use decoding::Call;
+use deciding::plain;
+use decoding::{Call, Operation};
 
 mod deciding;
 mod enacting;
@@ -30,7 +32,22 @@ pub struct Ran {
     pub answers: usize,
 }
 
-// One call, judged and, if it is answered OK, applied. The calls of every day, 0 to 3, change objects alone: they end early.
+// What an operation changes. The calls of every day, validate, grant, release and check, change objects alone: they end early.
+#[tactic(auto, unfolding(applying::specs::Apply::enact_in, judging::specs::Change::thread_change, judging::specs::Change::domain_change))]
+fn apply(objects: &mut [u64], threads: &mut [u32], slots: &mut [u32], operation: Operation, c: Call)
+    ensures { Applied (named operation) c objects.old threads.old slots.old objects.new threads.new slots.new }
+{
+    enacting_objects::change_objects(objects, operation, c);
+    match operation {
+        Operation::Validate | Operation::Grant | Operation::Release | Operation::Check => {}
+        _ => {
+            enacting::change_threads(threads, operation, c);
+            enacting::change_slots(slots, operation, c);
+        }
+    }
+}
+
+// One call, judged and, if it is answered OK, applied.
 fn step(objects: &mut [u64], threads: &mut [u32], slots: &mut [u32], c: Call) -> Answer
     requires { Sound objects.old threads.old slots.old }
     ensures { Stepped (judge·spec (state_of objects.old threads.old slots.old) c) (after (state_of objects.old threads.old slots.old) c) result objects.new threads.new slots.new }
@@ -39,12 +56,9 @@ fn step(objects: &mut [u64], threads: &mut [u32], slots: &mut [u32], c: Call) ->
     if r.code != answer::OK {
         return r;
     }
-    enacting_objects::change_objects(objects, c);
-    if c.op < 4 {
-        return r;
+    if let Some(operation) = decoding::operation_of(c.op) {
+        apply(objects, threads, slots, operation, c);
     }
-    enacting::change_threads(threads, c);
-    enacting::change_slots(slots, c);
     r
 }
 
@@ -87,10 +101,8 @@ fn run_whole(
     requires { Sound objects.old threads.old slots.old × ((16 * n ≤ length log.now) × (2 * n ≤ length out.old)) }
     ensures { Ranged (state_of objects.old threads.old slots.old) log.now out.old n objects.new threads.new slots.new out.new }
 {
-    let mut k: usize = 0;
-    while k < n {
+    for k in 0..n {
         turn(objects, threads, slots, log, k, out);
-        k += 1;
     }
 }
 
@@ -101,16 +113,10 @@ fn hear(objects: &mut [u64], threads: &mut [u32], slots: &mut [u32], bytes: &[u8
     ensures { Stepped (heard (state_of objects.old threads.old slots.old) bytes.now) (left (state_of objects.old threads.old slots.old) bytes.now) result objects.new threads.new slots.new }
 {
     if bytes.len() < CALL {
-        return Answer {
-            code: answer::SHORT,
-            value: 0,
-        };
+        return plain(answer::SHORT);
     }
     if CALL < bytes.len() {
-        return Answer {
-            code: answer::EINVAL,
-            value: 0,
-        };
+        return plain(answer::EINVAL);
     }
     let mut out = [0u32; 2];
     run_whole(objects, threads, slots, bytes, 1, &mut out);
@@ -125,11 +131,9 @@ pub fn call(objects: &mut [u64], threads: &mut [u32], slots: &mut [u32], bytes: 
     ensures { Called objects.old threads.old slots.old bytes.now result objects.new threads.new slots.new }
 {
     if rules::keeps(objects, threads, slots) {
-        return hear(objects, threads, slots, bytes);
-    }
-    Answer {
-        code: answer::VALUE,
-        value: 0,
+        hear(objects, threads, slots, bytes)
+    } else {
+        plain(answer::VALUE)
     }
 }
 
@@ -137,10 +141,7 @@ pub fn call(objects: &mut [u64], threads: &mut [u32], slots: &mut [u32], bytes: 
 fn parts_in(n: usize) -> usize
     ensures { (result ≡ parts_in n) × (result < 2 ^ 61) }
 {
-    if n % CALL == 0 {
-        return n / CALL;
-    }
-    n / CALL + 1
+    n.div_ceil(CALL)
 }
 
 // Every part of a log: a last one under sixteen bytes is SHORT, and changes nothing.
@@ -156,14 +157,9 @@ fn run_parts(
 {
     let n = log.len() / CALL;
     run_whole(objects, threads, slots, log, n, out);
-    if log.len() % CALL == 0 {
-        return;
+    if log.len() % CALL != 0 {
+        put_answer(out, n, plain(answer::SHORT));
     }
-    let short = Answer {
-        code: answer::SHORT,
-        value: 0,
-    };
-    put_answer(out, n, short);
 }
 
 // A whole log: the state is judged once. `out` takes code and value of each answer; what lies behind them stays.

@@ -20,7 +20,9 @@ use Rattle.tables.specs.Table.{HANDLES, no_object}
 use Rattle.tables.specs.State.{State, object}
 use Rattle.rules.specs.Rules.{is_live, is_supervisor}
 use Rattle.decoding.specs.declared.Call.{Call}
-use Rattle.decoding.specs.Calls.{Op, op_of}
+use Rattle.decoding.specs.declared.Operation.{Operation}
+use Rattle.decoding.specs.declared.Operation.TheVariants.{Validate, Grant, Release, Check, Exit, Create, Delete, Revoke, Init, Uninit, Recycle, MakePublic, CreateThread, End, Inherit, Assign, Add, Remove}
+use Rattle.decoding.specs.Calls.{Op, op_of, named}
 use Rattle.judging.specs.Judge.{◌⇒◌⨾◌, live, supervisor, well_formed, Use, no_handle, taken, use_of, with_handle, rule, is_unknown, is_privileged, judge_op, judge, taken_in}
 
 -- a callee's answer by its contract, and the branch that says what it is not
@@ -38,6 +40,11 @@ stop n rest e = rw e
 pub pass : {b : Bool} (n : Code) (rest : Answer) → b ≡ false → (b ⇒ n ⨾ rest) ≡ rest
 unfolding ◌⇒◌⨾◌
 pass n rest e = rw e
+
+-- as a choice, for `grind`
+pub refuses_by : (b : Bool) (n : Code) (rest : Answer) → (b ⇒ n ⨾ rest) ≡ cond b (refused n) rest
+unfolding ◌⇒◌⨾◌
+refuses_by b n rest = refl
 
 pub stop_not : {b : Bool} (n : Code) (rest : Answer) → b ≡ false → (not b ⇒ n ⨾ rest) ≡ refused n
 stop_not n rest e = stop n rest (ap not e)
@@ -125,6 +132,28 @@ module _ {me it : Thread} (e : me ≡ it) where
 
   pub role_not : me.role ≢ 2 → is_supervisor it ≡ false
   role_not z = rw (← e) (ne_eqb me.role 2 z)
+
+-- an operation that has a name is known
+pub known_op : (o : Operation) → is_unknown (named o) ≡ false
+unfolding is_unknown
+known_op Validate = refl
+known_op Grant = refl
+known_op Release = refl
+known_op Check = refl
+known_op Exit = refl
+known_op Create = refl
+known_op Delete = refl
+known_op Revoke = refl
+known_op Init = refl
+known_op Uninit = refl
+known_op Recycle = refl
+known_op MakePublic = refl
+known_op CreateThread = refl
+known_op End = refl
+known_op Inherit = refl
+known_op Assign = refl
+known_op Add = refl
+known_op Remove = refl
 
 -- ---- the whole order
 module _ (s : State) (c : Call) where

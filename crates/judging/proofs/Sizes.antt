@@ -1,6 +1,7 @@
 -- The lengths of three tables, tested.
 use Prim.Native.Nat.{ℕ}
-use mathlib.Core.Path.{◌≡◌, ap}
+use mathlib.Core.Path.{◌≡◌, refl, ap}
+use borrow.Author.Tests.{eq-eqb}
 use mathlib.Core.Bool.{Bool, true, false, cond}
 use mathlib.Core.List.{List}
 use lib.ListN.{length}
@@ -24,3 +25,15 @@ module _ (os ts ss : List ℕ) where
     pub unsized : sized (length os) (length ts) (length ss) ≡ false → judge_in os ts ss c ≡ refused Value
     unfolding judge_in
     unsized e = ap (λ (b : Bool). cond b (judge (state_of os ts ss) c) (refused Value)) e
+
+    -- by what the lengths are, and are not
+    pub judged_of : Sized os ts ss → judge_in os ts ss c ≡ judge (state_of os ts ss) c
+    unfolding sized
+    judged_of z = sized_by (rw (eq-eqb _ _ z.objects, eq-eqb _ _ z.threads, eq-eqb _ _ z.slots) refl)
+
+    pub refused_of : (Sized os ts ss → ⊥) → judge_in os ts ss c ≡ refused Value
+    refused_of n = go (sized (length os) (length ts) (length ss)) refl
+      where
+        go : (b : Bool) → sized (length os) (length ts) (length ss) ≡ b → judge_in os ts ss c ≡ refused Value
+        go true e = absurd (n (by_sized e))
+        go false e = unsized e

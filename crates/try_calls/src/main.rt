@@ -20,39 +20,35 @@ const BASE: u64 = 31337;
 
 const HALF: u64 = 4294967296;
 
-// The tables have room for more than a state has, so that longer ones can be lent.
-fn main(rt: HostRuntime) -> io::Result<()> {
-    let mut objects = [0u64; 520];
-    let mut threads = [0u32; 200];
-    let mut slots = [0u32; 392];
-    let mut out = [0u32; 256];
-    let mut bytes = [0u8; 4096];
-    every(
-        &rt,
-        &mut rt.stdin(),
-        &mut objects,
-        &mut threads,
-        &mut slots,
-        &mut out,
-        &mut bytes,
-    )
+// What a call or a log is given: x, y, z of its step.
+#[derive(Clone, Copy)]
+struct Lent {
+    x: u32,
+    y: u32,
+    z: u32,
 }
 
-fn every(
-    rt: &impl Print,
-    from: &mut impl Read,
-    objects: &mut [u64],
-    threads: &mut [u32],
-    slots: &mut [u32],
-    out: &mut [u32],
-    bytes: &mut [u8],
-) -> io::Result<()> {
-    let mut left = STEPS;
-    while left > 0 {
-        if !one(rt, from, objects, threads, slots, out, bytes)? {
+// The tables have room for more than a state has, so that longer ones can be lent. They go as a parameter each: of a struct behind a `&mut` no two fields
+// can be lent at once, tried in `call` and `run`.
+fn main(rt: HostRuntime) -> io::Result<()> {
+    let mut objects = [0; 520];
+    let mut threads = [0; 200];
+    let mut slots = [0; 392];
+    let mut out = [0; 256];
+    let mut bytes = [0; 4096];
+    let mut from = rt.stdin();
+    for _ in 0..STEPS {
+        if !one(
+            &rt,
+            &mut from,
+            &mut objects,
+            &mut threads,
+            &mut slots,
+            &mut out,
+            &mut bytes,
+        )? {
             break;
         }
-        left -= 1;
     }
     Ok(())
 }
@@ -72,22 +68,25 @@ fn one(
     if n < 16 {
         return Ok(false);
     }
-    let x = number(&head, 4);
-    let y = number(&head, 8);
-    let z = number(&head, 12);
+    let lent = Lent {
+        x: number(&head, 4),
+        y: number(&head, 8),
+        z: number(&head, 12),
+    };
     match number(&head, 0) {
-        0 => set_object(objects, x, y, z),
-        1 => set_number(threads, x, y),
-        2 => set_number(slots, x, y),
-        3 => set_number(out, x, y),
-        4 => call(rt, from, objects, threads, slots, bytes, x, y, z)?,
-        5 => run(rt, from, objects, threads, slots, out, bytes, x, y, z)?,
+        0 => set_object(objects, lent),
+        1 => set_number(threads, lent),
+        2 => set_number(slots, lent),
+        3 => set_number(out, lent),
+        4 => call(rt, from, objects, threads, slots, bytes, lent)?,
+        5 => run(rt, from, objects, threads, slots, out, bytes, lent)?,
         _ => word(rt, "?\n")?,
     }
     Ok(true)
 }
 
-// Reads until `into` is full or the input ends, and answers how many bytes it put at its start.
+// Reads until `into` is full or the input ends, and answers how many bytes it put at its start. `read_exact` doesn't say where an input ended, and each
+// turn goes on by as many bytes as came: no `for` counts them.
 fn read_full(from: &mut impl Read, into: &mut [u8]) -> io::Result<usize>
     ensures { ReadsAtMost result into.new }
 {
@@ -102,17 +101,15 @@ fn read_full(from: &mut impl Read, into: &mut [u8]) -> io::Result<usize>
     Ok(done)
 }
 
-fn set_object(objects: &mut [u64], x: u32, y: u32, z: u32) {
-    let i = x as usize;
-    if i < objects.len() {
-        objects[i] = wider(y) + wider(z) * HALF;
+fn set_object(objects: &mut [u64], lent: Lent) {
+    if let Some(number) = objects.get_mut(lent.x as usize) {
+        *number = u64::from(lent.y) + u64::from(lent.z) * HALF;
     }
 }
 
-fn set_number(xs: &mut [u32], x: u32, y: u32) {
-    let i = x as usize;
-    if i < xs.len() {
-        xs[i] = y;
+fn set_number(xs: &mut [u32], lent: Lent) {
+    if let Some(number) = xs.get_mut(lent.x as usize) {
+        *number = lent.y;
     }
 }
 
@@ -132,14 +129,12 @@ fn call(
     threads: &mut [u32],
     slots: &mut [u32],
     bytes: &mut [u8],
-    x: u32,
-    y: u32,
-    z: u32,
+    lent: Lent,
 ) -> io::Result<()> {
-    let n = listen(from, bytes, x)?;
-    let o = least(y % 65536, objects.len());
-    let t = least(y / 65536, threads.len());
-    let s = least(z, slots.len());
+    let n = listen(from, bytes, lent.x)?;
+    let o = least(lent.y % 65536, objects.len());
+    let t = least(lent.y / 65536, threads.len());
+    let s = least(lent.z, slots.len());
     let r = calls::call(
         &mut objects[..o],
         &mut threads[..t],
@@ -147,7 +142,12 @@ fn call(
         &bytes[..n],
     );
     word(rt, "call ")?;
-    answered(rt, r.code, r.value as u64, state(objects, threads, slots))?;
+    answered(
+        rt,
+        r.code,
+        u64::from(r.value),
+        state(objects, threads, slots),
+    )?;
     word(rt, "\n")
 }
 
@@ -159,15 +159,13 @@ fn run(
     slots: &mut [u32],
     out: &mut [u32],
     bytes: &mut [u8],
-    x: u32,
-    y: u32,
-    z: u32,
+    lent: Lent,
 ) -> io::Result<()> {
-    let n = listen(from, bytes, x)?;
-    let m = least(x / 65536, out.len());
-    let o = least(y % 65536, objects.len());
-    let t = least(y / 65536, threads.len());
-    let s = least(z, slots.len());
+    let n = listen(from, bytes, lent.x)?;
+    let m = least(lent.x / 65536, out.len());
+    let o = least(lent.y % 65536, objects.len());
+    let t = least(lent.y / 65536, threads.len());
+    let s = least(lent.z, slots.len());
     let r = calls::run(
         &mut objects[..o],
         &mut threads[..t],
@@ -177,17 +175,17 @@ fn run(
     );
     word(rt, "run ")?;
     answered(rt, r.code, r.answers as u64, state(objects, threads, slots))?;
-    lent(rt, out, m)
+    left_in(rt, out, m)
 }
 
 fn answered(rt: &impl Print, code: u32, value: u64, after: u64) -> io::Result<()> {
-    figure(rt, wider(code))?;
+    figure(rt, u64::from(code))?;
     figure(rt, value)?;
     figure(rt, after)
 }
 
 // What a log has left in `out`: all of it as a digest, and the lent numbers.
-fn lent(rt: &impl Print, out: &[u32], m: usize) -> io::Result<()> {
+fn left_in(rt: &impl Print, out: &[u32], m: usize) -> io::Result<()> {
     figure(rt, digest(out, 0))?;
     numbers(rt, out, m)?;
     word(rt, "\n")
@@ -199,24 +197,12 @@ fn state(objects: &[u64], threads: &[u32], slots: &[u32]) -> u64 {
 }
 
 fn digest(xs: &[u32], from: u64) -> u64 {
-    let mut d = from;
-    let mut i = 0;
-    while i < xs.len() {
-        d = mix(d, wider(xs[i]));
-        i += 1;
-    }
-    d
+    xs.iter().fold(from, |d, x| mix(d, u64::from(*x)))
 }
 
 // A number of 64 bits goes in by halves, so that no two numbers count as the same.
 fn digest_wide(xs: &[u64], from: u64) -> u64 {
-    let mut d = from;
-    let mut i = 0;
-    while i < xs.len() {
-        d = mix(mix(d, xs[i]), xs[i] / HALF);
-        i += 1;
-    }
-    d
+    xs.iter().fold(from, |d, x| mix(mix(d, *x), *x / HALF))
 }
 
 fn mix(d: u64, x: u64) -> u64 {
@@ -224,12 +210,8 @@ fn mix(d: u64, x: u64) -> u64 {
 }
 
 fn numbers(rt: &impl Print, out: &[u32], m: usize) -> io::Result<()> {
-    let mut k = 0;
-    while k < m {
-        if k < out.len() {
-            figure(rt, wider(out[k]))?;
-        }
-        k += 1;
+    for number in out.iter().take(m) {
+        figure(rt, u64::from(*number))?;
     }
     Ok(())
 }
@@ -237,8 +219,7 @@ fn numbers(rt: &impl Print, out: &[u32], m: usize) -> io::Result<()> {
 fn least(n: u32, most: usize) -> usize
     ensures { result ≤ most }
 {
-    let m = n as usize;
-    if m < most { m } else { most }
+    (n as usize).min(most)
 }
 
 fn figure(rt: &impl Print, n: u64) -> io::Result<()> {
@@ -250,26 +231,10 @@ fn word(rt: &impl Print, text: &str) -> io::Result<()> {
     rt.print(text)
 }
 
-fn wider(n: u32) -> u64
-    ensures { result < 4294967296 }
-{
-    n as u64
-}
-
 // The little-endian word at a place of a step's head, and 0 past its end.
 fn number(head: &[u8; 16], at: usize) -> u32 {
     if at > 12 {
         return 0;
     }
-    let b0 = wide(head[at]);
-    let b1 = wide(head[at + 1]);
-    let b2 = wide(head[at + 2]);
-    let b3 = wide(head[at + 3]);
-    b0 + b1 * 256 + b2 * 65536 + b3 * 16777216
-}
-
-fn wide(b: u8) -> u32
-    ensures { result < 256 }
-{
-    b as u32
+    u32::from_le_bytes([head[at], head[at + 1], head[at + 2], head[at + 3]])
 }

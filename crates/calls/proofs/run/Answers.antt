@@ -1,12 +1,7 @@
 use native.Mathlib.Omega.{arith}
-use Prim.Native.Nat.{◌-◌}
 use Rattle.judging.proofs.Order.{via_no, via_yes}
 use Rattle.rules.proofs.Rules.{test_sound}
 use Rattle.calls.proofs.Laws.{run_unsound, run_room, run_done}
-use borrow.Author.Rules.{rules}
-use Rattle.calls.proofs.parts_in.Reads as parts-in-reads
-use Rattle.calls.proofs.run_parts.Reads as run-parts-reads
-use Rattle.rules.proofs.keeps.Reads as keeps-reads
 use Rattle.calls.proofs.run.Goals as goal
 
 pub returns-then-not-keeps : goal.returns-then-not-keeps

@@ -1,8 +1,4 @@
 use Rattle.calls.proofs.Laws.{told_at}
-use borrow.Author.Rules.{rules}
-use Rattle.calls.proofs.put_answer.Reads as put-answer-reads
-use Rattle.calls.proofs.step.Reads as step-reads
-use Rattle.decoding.proofs.decode.Reads as decode-reads
 use Rattle.calls.proofs.turn.Goals as goal
 
 pub returns : goal.returns

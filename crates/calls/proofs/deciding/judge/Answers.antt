@@ -1,18 +1,21 @@
-use Prim.Native.Nat.{◌-◌}
-use mathlib.Core.Path.{sym, ◌∙◌}
-use Rattle.judging.proofs.Order.{via_no, via_yes}
-use Rattle.judging.proofs.Sizes.{sized_by, by_sized, unsized}
-use borrow.Author.Rules.{rules}
-use Rattle.tables.proofs.is_sized.Reads as is-sized-reads
-use Rattle.calls.proofs.deciding.judge_sized.Reads as judge-sized-reads
-use Rattle.calls.proofs.deciding.plain_answer.Reads as plain-answer-reads
+use Rattle.std.proofs.Common.{sym, ◌∙◌}
+use Rattle.tables.specs.Table.{Sized}
+use Rattle.judging.proofs.Sizes.{judged_of, refused_of}
 use Rattle.calls.proofs.deciding.judge.Goals as goal
 
-pub returns-then-not-is_sized : goal.returns-then-not-is_sized
-returns-then-not-is_sized c = c.plain_answer.ensures ∙ sym (unsized _ _ _ _ (via_no c.is_sized.ensures c.if-not-is_sized.true))
+pub returns-in_default : goal.returns-in_default
+returns-in_default c = c.plain.ensures ∙ sym (refused_of _ _ _ _ (λ z. c.in_default.ensures.1 z.objects))
 
-pub judge_sized-requires : goal.judge_sized-requires
-judge_sized-requires c = by_sized _ _ _ (via_yes c.is_sized.ensures c.if-not-is_sized.false)
+pub returns-in_default-try_into : goal.returns-in_default-try_into
+returns-in_default-try_into c = c.plain-in_default-try_into.ensures ∙ sym (refused_of _ _ _ _ (λ z. c.in_default-try_into.ensures.1 z.threads))
+
+pub returns-in_default-try_into-2 : goal.returns-in_default-try_into-2
+returns-in_default-try_into-2 c = c.plain-in_default-try_into-2.ensures ∙ sym (refused_of _ _ _ _ (λ z. c.in_default-try_into-2.ensures.1 z.slots))
 
 pub returns : goal.returns
-returns c = c.judge_sized.ensures ∙ sym (sized_by _ _ _ _ (via_yes c.is_sized.ensures c.if-not-is_sized.false))
+returns c =
+    let o = c.in-Ok.ensures.1 in
+    let t = c.in-Ok-try_into.ensures.1 in
+    let s = c.in-Ok-try_into-2.ensures.1 in
+    let z : Sized c.args.objects.now c.args.threads.now c.args.slots.now = record { objects = o.long; threads = t.long; slots = s.long } in
+    c.judge_state.ensures ∙ rw (o.same, t.same, s.same) (sym (judged_of _ _ _ _ z))

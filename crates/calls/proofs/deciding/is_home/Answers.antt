@@ -1,9 +1,0 @@
-use Prim.Native.Nat.{◌-◌}
-use Rattle.answer.specs.Tests.{tests}
-use Rattle.calls.proofs.deciding.is_home.Goals as goal
-
-pub returns-then-d-lt-DOMAINS : goal.returns-then-d-lt-DOMAINS
-returns-then-d-lt-DOMAINS c = search tests
-
-pub returns : goal.returns
-returns c = search tests

@@ -1,6 +1,0 @@
-use borrow.Author.Rules.{rules}
-use Rattle.calls.proofs.deciding.thread_in.Reads as thread-in-reads
-use Rattle.calls.proofs.deciding.is_live.Goals as goal
-
-pub returns : goal.returns
-returns c = rw c.thread_in-who.ensures
