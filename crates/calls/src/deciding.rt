@@ -5,7 +5,6 @@
 #![tactic(auto, using(judging::proofs::Order::refuses_by), unfolding(judging::specs::Judge::judge_op, judging::specs::Judge::well_formed, judging::specs::Judge::use_of, judging::specs::Judge::with_handle, judging::specs::Judge::taken_in, judging::specs::Judge::rule, judging::specs::Judge::sup_rule, tables::specs::State::object, tables::specs::State::thread, tables::specs::State::domain))]
 
 ghost use Rattle.std.specs.Prelude.{◌≡◌, true, ◌&&◌, ◌||◌, not, ◌<◌, ◌≤◌, eqb, ltb, leb, get_or, length};
-ghost use Rattle.answer.specs.Answer.{plain as plain·spec};
 ghost use Rattle.mem_domain.specs.Domain.{with_count};
 ghost use Rattle.tables.specs.State.{object, thread, domain};
 ghost use Rattle.rules.specs.Rules.{is_live, is_supervisor};
@@ -13,7 +12,7 @@ ghost use Rattle.decoding.specs.Calls.{named, validate as validate·op, grant as
 ghost use Rattle.judging.specs.Judge.{is_mode, mode_of, well_formed, live, supervisor, serves_at, serves, may_use, rule, judge_op, judge as judge·spec, judge_in, taken_in, is_privileged, bare_fields, thread_fields};
 ghost use Rattle.calls.specs.Seen.{seen};
 
-use answer::{Answer, EADDRINUSE, EBADF, EINVAL, EPERM, OK, VALUE};
+use answer::{Answer, Code};
 use decoding::{Call, Operation};
 use mem_domain::MemDomain;
 use mem_partition::MemPartition;
@@ -100,13 +99,6 @@ impl Tables<'_> {
     }
 }
 
-// An answer with no value.
-pub fn plain(code: u32) -> Answer
-    ensures { result ≡ plain·spec code }
-{
-    Answer { code, value: 0 }
-}
-
 // ---- fields
 
 // Fields c and d unused.
@@ -170,17 +162,17 @@ fn validate_rule(t: Tables, c: Call) -> Answer
     let found = t
         .object(c.a)
         .validate(c.b as u8, c.caller, supervisor, mode_of(c.c));
-    plain(userspace_decide::validated_number(found))
+    found.into()
 }
 
 fn validate(t: Tables, c: Call) -> Answer
     ensures { result ≡ judge_op validate·op (seen t.entry) c }
 {
     if !(c.b < 16 && is_mode(c.c) && c.d == 0) {
-        return plain(EINVAL);
+        return Code::Einval.into();
     }
     if !t.is_taken(c.a) {
-        return plain(EBADF);
+        return Code::Ebadf.into();
     }
     validate_rule(t, c)
 }
@@ -189,26 +181,26 @@ fn grant_rule(t: Tables, c: Call) -> Answer
     ensures { result ≡ rule grant·op (seen t.entry) c }
 {
     if !t.may_use(c.caller, c.a) {
-        return plain(EPERM);
+        return Code::Eperm.into();
     }
     let target = t.thread(c.b);
     if target.role == 0 {
-        return plain(EINVAL);
+        return Code::Einval.into();
     }
     if !t.may_use(c.caller, target.handle) {
-        return plain(EPERM);
+        return Code::Eperm.into();
     }
-    plain(OK)
+    Code::Ok.into()
 }
 
 fn grant(t: Tables, c: Call) -> Answer
     ensures { result ≡ judge_op grant·op (seen t.entry) c }
 {
     if !thread_fields(c) {
-        return plain(EINVAL);
+        return Code::Einval.into();
     }
     if !t.is_taken(c.a) {
-        return plain(EBADF);
+        return Code::Ebadf.into();
     }
     grant_rule(t, c)
 }
@@ -217,15 +209,15 @@ fn release(t: Tables, c: Call) -> Answer
     ensures { result ≡ judge_op release·op (seen t.entry) c }
 {
     if !bare_fields(c) {
-        return plain(EINVAL);
+        return Code::Einval.into();
     }
     if !t.is_taken(c.a) {
-        return plain(EBADF);
+        return Code::Ebadf.into();
     }
     if !t.may_use(c.caller, c.a) {
-        return plain(EPERM);
+        return Code::Eperm.into();
     }
-    plain(OK)
+    Code::Ok.into()
 }
 
 #[tactic(auto, using(judging::proofs::Order::refuses_by, mem_check::proofs::Memory::slots_in_lem), unfolding(judging::specs::Judge::judge_op, judging::specs::Judge::well_formed, judging::specs::Judge::use_of, judging::specs::Judge::with_handle, judging::specs::Judge::rule, tables::specs::State::thread, tables::specs::State::domain))]
@@ -233,7 +225,7 @@ fn check(t: Tables, c: Call) -> Answer
     ensures { result ≡ judge_op check·op (seen t.entry) c }
 {
     if c.a != 0 || 1 < c.d {
-        return plain(EINVAL);
+        return Code::Einval.into();
     }
     let slots = t.slots;
     let me = t.thread(c.caller);
@@ -244,9 +236,9 @@ fn exit(t: Tables, c: Call) -> Answer
     ensures { result ≡ judge_op exit·op (seen t.entry) c }
 {
     if c.a != 0 || !bare_fields(c) {
-        return plain(EINVAL);
+        return Code::Einval.into();
     }
-    plain(OK)
+    Code::Ok.into()
 }
 
 // ---- the calls of supervisors that name a handle
@@ -255,45 +247,45 @@ fn create(t: Tables, c: Call) -> Answer
     ensures { result ≡ judge_op (sup create·op) (seen t.entry) c }
 {
     if c.b == 0 || 15 < c.b || !no_more(c) {
-        return plain(EINVAL);
+        return Code::Einval.into();
     }
     if HANDLES <= c.a {
-        return plain(EBADF);
+        return Code::Ebadf.into();
     }
     if t.object(c.a).obj_type != 0 {
-        return plain(EADDRINUSE);
+        return Code::Eaddrinuse.into();
     }
-    plain(OK)
+    Code::Ok.into()
 }
 
 fn delete(t: Tables, c: Call) -> Answer
     ensures { result ≡ judge_op (sup delete·op) (seen t.entry) c }
 {
     if !bare_fields(c) {
-        return plain(EINVAL);
+        return Code::Einval.into();
     }
     if !t.is_taken(c.a) {
-        return plain(EBADF);
+        return Code::Ebadf.into();
     }
     if t.serves(c.a) {
-        return plain(EADDRINUSE);
+        return Code::Eaddrinuse.into();
     }
-    plain(OK)
+    Code::Ok.into()
 }
 
 fn revoke(t: Tables, c: Call) -> Answer
     ensures { result ≡ judge_op (sup revoke·op) (seen t.entry) c }
 {
     if !thread_fields(c) {
-        return plain(EINVAL);
+        return Code::Einval.into();
     }
     if !t.is_taken(c.a) {
-        return plain(EBADF);
+        return Code::Ebadf.into();
     }
     if !t.is_live(c.b) {
-        return plain(EINVAL);
+        return Code::Einval.into();
     }
-    plain(OK)
+    Code::Ok.into()
 }
 
 // Init, uninit, recycle and make public: a taken handle is all that they want.
@@ -301,37 +293,37 @@ fn bare(t: Tables, c: Call) -> Answer
     ensures { result ≡ judge_op (sup init·op) (seen t.entry) c }
 {
     if !bare_fields(c) {
-        return plain(EINVAL);
+        return Code::Einval.into();
     }
     if !t.is_taken(c.a) {
-        return plain(EBADF);
+        return Code::Ebadf.into();
     }
-    plain(OK)
+    Code::Ok.into()
 }
 
 fn create_thread_rule(t: Tables, c: Call) -> Answer
     ensures { result ≡ rule (sup thread·op) (seen t.entry) c }
 {
     if t.is_live(c.b) {
-        return plain(EADDRINUSE);
+        return Code::Eaddrinuse.into();
     }
     if t.object(c.a).obj_type != 1 {
-        return plain(EBADF);
+        return Code::Ebadf.into();
     }
     if t.serves(c.a) {
-        return plain(EADDRINUSE);
+        return Code::Eaddrinuse.into();
     }
-    plain(OK)
+    Code::Ok.into()
 }
 
 fn create_thread(t: Tables, c: Call) -> Answer
     ensures { result ≡ judge_op (sup thread·op) (seen t.entry) c }
 {
     if !new_thread_fields(c) {
-        return plain(EINVAL);
+        return Code::Einval.into();
     }
     if !t.is_taken(c.a) {
-        return plain(EBADF);
+        return Code::Ebadf.into();
     }
     create_thread_rule(t, c)
 }
@@ -342,67 +334,59 @@ fn end(t: Tables, c: Call) -> Answer
     ensures { result ≡ judge_op (sup end·op) (seen t.entry) c }
 {
     if c.a != 0 || !thread_fields(c) {
-        return plain(EINVAL);
+        return Code::Einval.into();
     }
     if !t.is_live(c.b) {
-        return plain(EINVAL);
+        return Code::Einval.into();
     }
-    plain(OK)
+    Code::Ok.into()
 }
 
 fn inherit(t: Tables, c: Call) -> Answer
     ensures { result ≡ judge_op (sup inherit·op) (seen t.entry) c }
 {
     if c.a != 0 || THREADS <= c.b || THREADS <= c.c || c.d != 0 {
-        return plain(EINVAL);
+        return Code::Einval.into();
     }
     if !t.is_live(c.b) || !t.is_live(c.c) {
-        return plain(EINVAL);
+        return Code::Einval.into();
     }
-    plain(OK)
+    Code::Ok.into()
 }
 
 fn assign(t: Tables, c: Call) -> Answer
     ensures { result ≡ judge_op (sup assign·op) (seen t.entry) c }
 {
     if c.a != 0 || THREADS <= c.b || !is_home(c.c) || c.d != 0 {
-        return plain(EINVAL);
+        return Code::Einval.into();
     }
     if !t.is_live(c.b) {
-        return plain(EINVAL);
+        return Code::Einval.into();
     }
-    plain(OK)
+    Code::Ok.into()
 }
 
 fn add(t: Tables, c: Call) -> Answer
     ensures { result ≡ judge_op (sup add·op) (seen t.entry) c }
 {
     if DOMAINS <= c.a || !domain_rules::attr_ok(c.d) {
-        return plain(EINVAL);
+        return Code::Einval.into();
     }
     let p = MemPartition {
         start: c.b,
         size: c.c,
         attr: c.d,
     };
-    let r = t.domain(c.a).add_partition(p);
-    Answer {
-        code: r.code,
-        value: r.value,
-    }
+    t.domain(c.a).add_partition(p).into()
 }
 
 fn remove(t: Tables, c: Call) -> Answer
     ensures { result ≡ judge_op (sup remove·op) (seen t.entry) c }
 {
     if DOMAINS <= c.a || c.d != 0 {
-        return plain(EINVAL);
+        return Code::Einval.into();
     }
-    let r = t.domain(c.a).remove_partition(c.b, c.c);
-    Answer {
-        code: r.code,
-        value: r.value,
-    }
+    t.domain(c.a).remove_partition(c.b, c.c).into()
 }
 
 // ---- the order
@@ -452,17 +436,17 @@ fn judge_state(t: Tables, c: Call) -> Answer
     ensures { result ≡ judge·spec (seen t.entry) c }
 {
     if THREADS <= c.caller {
-        return plain(EINVAL);
+        return Code::Einval.into();
     }
     let me = t.thread(c.caller);
     if me.role == 0 {
-        return plain(EPERM);
+        return Code::Eperm.into();
     }
     let Some(operation) = decoding::operation_of(c.op) else {
-        return plain(EINVAL);
+        return Code::Einval.into();
     };
     if is_privileged(operation) && me.role != 2 {
-        return plain(EPERM);
+        return Code::Eperm.into();
     }
     judge_operation(t, operation, c)
 }
@@ -472,13 +456,13 @@ pub fn judge(objects: &[u64], threads: &[u32], slots: &[u32], c: Call) -> Answer
     ensures { result ≡ judge_in objects.now threads.now slots.now c }
 {
     let Ok(objects) = objects.try_into() else {
-        return plain(VALUE);
+        return Code::Value.into();
     };
     let Ok(threads) = threads.try_into() else {
-        return plain(VALUE);
+        return Code::Value.into();
     };
     let Ok(slots) = slots.try_into() else {
-        return plain(VALUE);
+        return Code::Value.into();
     };
     let state = Tables {
         objects,

@@ -71,28 +71,30 @@ pub fn change_threads(threads: &mut [u32], operation: Operation, c: Call)
 
 // ---- domains
 
-fn domain_after(operation: Operation, c: Call, m: MemDomain) -> MemDomain
-    ensures { result ≡ domain_after (named operation) c m }
+fn change(m: &mut MemDomain, operation: Operation, c: Call)
+    ensures { m.new ≡ domain_after (named operation) c m.old }
 {
     match operation {
         Operation::Add => {
-            let part = MemPartition {
+            let _ = m.add_partition(MemPartition {
                 start: c.b,
                 size: c.c,
                 attr: c.d,
-            };
-            m.add_partition(part).domain
+            });
         }
-        Operation::Remove => m.remove_partition(c.b, c.c).domain,
-        _ => m,
+        Operation::Remove => {
+            let _ = m.remove_partition(c.b, c.c);
+        }
+        _ => {}
     }
 }
 
 fn change_domain(slots: &mut [u32], d: u32, operation: Operation, c: Call)
     ensures { slots.new ≡ put_domain slots.old d (domain_after (named operation) c (domain_at slots.old d)) }
 {
-    let m = tables::load_domain(slots, d);
-    tables::store_domain(slots, d, domain_after(operation, c, m));
+    let mut m = tables::load_domain(slots, d);
+    change(&mut m, operation, c);
+    tables::store_domain(slots, d, m);
 }
 
 pub fn change_slots(slots: &mut [u32], operation: Operation, c: Call)

@@ -13,27 +13,32 @@ use decoding::{Call, Operation};
 use tables::HANDLES;
 use userspace::KernelObject;
 
-// ---- one object
+// ---- one object. No call that was answered OK names a thread that the leaf refuses, so what it answers is not asked.
 
-fn with_bit(o: KernelObject, t: u32) -> KernelObject
-    ensures { result ≡ (granted o t).object }
+fn give(o: &mut KernelObject, t: u32)
+    ensures { o.new ≡ (granted o.old t).object }
 {
-    o.grant_access(t).object
+    let _ = o.grant_access(t);
 }
 
-fn without_bit(o: KernelObject, t: u32) -> KernelObject
-    ensures { result ≡ (revoked o t).object }
+fn take(o: &mut KernelObject, t: u32)
+    ensures { o.new ≡ (revoked o.old t).object }
 {
-    o.revoke_access(t).object
+    let _ = o.revoke_access(t);
 }
 
-fn with_heritage(o: KernelObject, parent: u32, child: u32) -> KernelObject
-    ensures { result ≡ inherited parent child o }
+fn recycle(o: &mut KernelObject, t: u32)
+    ensures { o.new ≡ (recycled o.old t).object }
 {
-    if o.has_perm(parent).value == 1 {
-        with_bit(o, child)
-    } else {
-        o
+    let _ = o.recycle(t);
+}
+
+#[tactic(auto, unfolding(judging::specs::Change::inherited, userspace::specs::Userspace::holds, userspace::specs::Userspace::bit_answer))]
+fn bequeath(o: &mut KernelObject, parent: u32, child: u32)
+    ensures { o.new ≡ inherited parent child o.old }
+{
+    if o.has_perm(parent) == Ok(true) {
+        give(o, child);
     }
 }
 
@@ -58,49 +63,45 @@ fn ended(operation: Operation, c: Call) -> u32
 }
 
 // Create and delete leave nothing of what was there.
-fn whole_after(operation: Operation, c: Call, o: KernelObject) -> KernelObject
-    ensures { result ≡ whole_after (named operation) c o }
+fn make_anew(o: &mut KernelObject, operation: Operation, c: Call)
+    ensures { o.new ≡ whole_after (named operation) c o.old }
 {
     match operation {
-        Operation::Create => KernelObject::new((c.b % 256) as u8),
-        Operation::Delete => KernelObject {
-            obj_type: 0,
-            flags: 0,
-            word: 0,
-        },
-        _ => o,
+        Operation::Create => *o = KernelObject::new((c.b % 256) as u8),
+        Operation::Delete => *o = KernelObject::default(),
+        _ => {}
     }
 }
 
-fn flags_after(operation: Operation, o: KernelObject) -> KernelObject
-    ensures { result ≡ flags_after (named operation) o }
+fn set_flags(o: &mut KernelObject, operation: Operation)
+    ensures { o.new ≡ flags_after (named operation) o.old }
 {
     match operation {
         Operation::Init => o.init_object(),
         Operation::Uninit => o.uninit_object(),
         Operation::MakePublic => o.make_public(),
-        _ => o,
+        _ => {}
     }
 }
 
 // What a call makes of an object that it reaches.
-fn object_after(operation: Operation, c: Call, o: KernelObject) -> KernelObject
-    ensures { result ≡ object_after (named operation) c o }
+fn change(o: &mut KernelObject, operation: Operation, c: Call)
+    ensures { o.new ≡ object_after (named operation) c o.old }
 {
     match operation {
-        Operation::Grant => with_bit(o, c.b),
-        Operation::Release => without_bit(o, loser(operation, c)),
-        Operation::Revoke => without_bit(o, loser(operation, c)),
-        Operation::Exit => without_bit(o, ended(operation, c)),
-        Operation::End => without_bit(o, ended(operation, c)),
-        Operation::Create => whole_after(operation, c, o),
-        Operation::Delete => whole_after(operation, c, o),
-        Operation::Init => flags_after(operation, o),
-        Operation::Uninit => flags_after(operation, o),
-        Operation::MakePublic => flags_after(operation, o),
-        Operation::Recycle => o.recycle(c.caller).object,
-        Operation::Inherit => with_heritage(o, c.b, c.c),
-        _ => o,
+        Operation::Grant => give(o, c.b),
+        Operation::Release => take(o, loser(operation, c)),
+        Operation::Revoke => take(o, loser(operation, c)),
+        Operation::Exit => take(o, ended(operation, c)),
+        Operation::End => take(o, ended(operation, c)),
+        Operation::Create => make_anew(o, operation, c),
+        Operation::Delete => make_anew(o, operation, c),
+        Operation::Init => set_flags(o, operation),
+        Operation::Uninit => set_flags(o, operation),
+        Operation::MakePublic => set_flags(o, operation),
+        Operation::Recycle => recycle(o, c.caller),
+        Operation::Inherit => bequeath(o, c.b, c.c),
+        _ => {}
     }
 }
 
@@ -109,16 +110,17 @@ fn object_after(operation: Operation, c: Call, o: KernelObject) -> KernelObject
 fn grant_object(objects: &mut [u64], h: u32, t: u32)
     ensures { objects.new ≡ put_object objects.old h (granted (object_at objects.old h) t).object }
 {
-    let o = object_table::load_object(objects, h);
-    object_table::store_object(objects, h, with_bit(o, t));
+    let mut o = object_table::load_object(objects, h);
+    give(&mut o, t);
+    object_table::store_object(objects, h, o);
 }
 
 fn change_object(objects: &mut [u64], h: u32, operation: Operation, c: Call)
     ensures { objects.new ≡ put_object objects.old h (object_after (named operation) c (object_at objects.old h)) }
 {
-    let o = object_table::load_object(objects, h);
-    let next = object_after(operation, c, o);
-    object_table::store_object(objects, h, next);
+    let mut o = object_table::load_object(objects, h);
+    change(&mut o, operation, c);
+    object_table::store_object(objects, h, o);
 }
 
 fn change_each(objects: &mut [u64], operation: Operation, c: Call)

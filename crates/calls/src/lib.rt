@@ -14,8 +14,7 @@ ghost use Rattle.judging.specs.Change.{after, left};
 ghost use Rattle.calls.specs.Calls.{Called, Run, parts_in, part_at, put_answer};
 ghost use Rattle.calls.specs.Steps.{Applied, Stepped, Told, Ranged};
 
-use answer::Answer;
-use deciding::plain;
+use answer::{Answer, Code};
 use decoding::{Call, Operation};
 
 mod deciding;
@@ -113,10 +112,10 @@ fn hear(objects: &mut [u64], threads: &mut [u32], slots: &mut [u32], bytes: &[u8
     ensures { Stepped (heard (state_of objects.old threads.old slots.old) bytes.now) (left (state_of objects.old threads.old slots.old) bytes.now) result objects.new threads.new slots.new }
 {
     if bytes.len() < CALL {
-        return plain(answer::SHORT);
+        return Code::Short.into();
     }
     if CALL < bytes.len() {
-        return plain(answer::EINVAL);
+        return Code::Einval.into();
     }
     let mut out = [0u32; 2];
     run_whole(objects, threads, slots, bytes, 1, &mut out);
@@ -133,7 +132,7 @@ pub fn call(objects: &mut [u64], threads: &mut [u32], slots: &mut [u32], bytes: 
     if rules::keeps(objects, threads, slots) {
         hear(objects, threads, slots, bytes)
     } else {
-        plain(answer::VALUE)
+        Code::Value.into()
     }
 }
 
@@ -158,7 +157,7 @@ fn run_parts(
     let n = log.len() / CALL;
     run_whole(objects, threads, slots, log, n, out);
     if log.len() % CALL != 0 {
-        put_answer(out, n, plain(answer::SHORT));
+        put_answer(out, n, Code::Short.into());
     }
 }
 

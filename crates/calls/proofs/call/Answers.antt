@@ -10,4 +10,4 @@ pub returns-then-keeps : goal.returns-then-keeps
 returns-then-keeps c = call_heard _ _ _ _ (via c.keeps.ensures c.if-keeps.true) c.hear.ensures
 
 pub returns-else-keeps : goal.returns-else-keeps
-returns-else-keeps c = rw c.plain.ensures (call_refused _ _ _ _ (via c.keeps.ensures c.if-keeps.false))
+returns-else-keeps c = rw c.into.ensures (call_refused _ _ _ _ (via c.keeps.ensures c.if-keeps.false))

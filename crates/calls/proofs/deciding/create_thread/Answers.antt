@@ -8,7 +8,7 @@ pub returns-then-not-is_taken : goal.returns-then-not-is_taken
 unfolding use_of
 returns-then-not-is_taken c =
     let f = via_yes c.new_thread_fields.ensures c.if-not-new_thread_fields.false in
-    c.plain-then-not-is_taken.ensures ∙ sym (bad_handle (sup thread) _ _ f refl (via_no c.is_taken.ensures c.if-not-is_taken.true))
+    c.into-then-not-is_taken.ensures ∙ sym (bad_handle (sup thread) _ _ f refl (via_no c.is_taken.ensures c.if-not-is_taken.true))
 
 pub returns : goal.returns
 unfolding use_of

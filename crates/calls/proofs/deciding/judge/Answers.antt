@@ -4,13 +4,13 @@ use Rattle.judging.proofs.Sizes.{judged_of, refused_of}
 use Rattle.calls.proofs.deciding.judge.Goals as goal
 
 pub returns-in_default : goal.returns-in_default
-returns-in_default c = c.plain.ensures ∙ sym (refused_of _ _ _ _ (λ z. c.in_default.ensures.1 z.objects))
+returns-in_default c = c.into.ensures ∙ sym (refused_of _ _ _ _ (λ z. c.in_default.ensures.1 z.objects))
 
 pub returns-in_default-try_into : goal.returns-in_default-try_into
-returns-in_default-try_into c = c.plain-in_default-try_into.ensures ∙ sym (refused_of _ _ _ _ (λ z. c.in_default-try_into.ensures.1 z.threads))
+returns-in_default-try_into c = c.into-in_default-try_into.ensures ∙ sym (refused_of _ _ _ _ (λ z. c.in_default-try_into.ensures.1 z.threads))
 
 pub returns-in_default-try_into-2 : goal.returns-in_default-try_into-2
-returns-in_default-try_into-2 c = c.plain-in_default-try_into-2.ensures ∙ sym (refused_of _ _ _ _ (λ z. c.in_default-try_into-2.ensures.1 z.slots))
+returns-in_default-try_into-2 c = c.into-in_default-try_into-2.ensures ∙ sym (refused_of _ _ _ _ (λ z. c.in_default-try_into-2.ensures.1 z.slots))
 
 pub returns : goal.returns
 returns c =

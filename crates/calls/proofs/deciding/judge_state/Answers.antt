@@ -9,18 +9,18 @@ use Rattle.calls.proofs.deciding.judge_state.Goals as goal
 use Rattle.calls.proofs.deciding.judge_state.Goals.{else-is_privileged-via-then-is_privileged+else-me-ne2, else-is_privileged-via-else-is_privileged}
 
 pub returns-then-c-ge-THREADS : goal.returns-then-c-ge-THREADS
-returns-then-c-ge-THREADS c = c.plain.ensures ∙ sym (bad_caller _ _ c.if-c-ge-THREADS.true)
+returns-then-c-ge-THREADS c = c.into.ensures ∙ sym (bad_caller _ _ c.if-c-ge-THREADS.true)
 
 pub returns-then-me-eq0 : goal.returns-then-me-eq0
 unfolding thread
 returns-then-me-eq0 c =
-    c.plain-then-me-eq0.ensures ∙ sym (dead_caller _ _ c.if-c-ge-THREADS.false (role_dead c.thread-me.ensures c.if-me-eq0.true))
+    c.into-then-me-eq0.ensures ∙ sym (dead_caller _ _ c.if-c-ge-THREADS.false (role_dead c.thread-me.ensures c.if-me-eq0.true))
 
 pub returns-in_default : goal.returns-in_default
 unfolding thread is_unknown
 returns-in_default c =
     let u = no_operation c.args.c.op (sym c.in_default.is ∙ c.operation_of.ensures) in
-    c.plain-in_default.ensures ∙ sym (no_op _ _ c.if-c-ge-THREADS.false (role_live c.thread-me.ensures c.if-me-eq0.false) (rw u))
+    c.into-in_default.ensures ∙ sym (no_op _ _ c.if-c-ge-THREADS.false (role_live c.thread-me.ensures c.if-me-eq0.false) (rw u))
 
 pub returns-then-me-ne2 : goal.returns-then-me-ne2
 unfolding thread
@@ -28,7 +28,7 @@ returns-then-me-ne2 c =
     let n = is_named c.args.c.op _ (sym c.in-Some.is ∙ c.operation_of.ensures) in
     let lives = role_live c.thread-me.ensures c.if-me-eq0.false in
     let p = via_yes c.is_privileged.ensures c.if-is_privileged.true in
-    c.plain-then-me-ne2.ensures
+    c.into-then-me-ne2.ensures
     ∙ sym (not_theirs _ _ c.if-c-ge-THREADS.false lives (rw n (known_op _)) (rw n p) (role_not c.thread-me.ensures c.if-me-ne2.true))
 
 pub returns : goal.returns
