@@ -3,9 +3,8 @@ use mathlib.Core.Path.{◌≡◌, sym, ap, ◌∙◌}
 use mathlib.Core.Bool.{Bool}
 use Prim.Native.Nat.{ℕ}
 use Rattle.answer.specs.declared.Answer.{Answer}
-use Rattle.answer.specs.declared.Errno.{Errno}
 use Rattle.calls.specs.declared.Ran.{Ran}
-use Rattle.mem_domain.specs.declared.Got.{Got}
+use Rattle.firmware.specs.Lent.{Got}
 use Rattle.firmware.proofs.wardlatch_call.Reads as wardlatch-call
 use Rattle.firmware.proofs.wardlatch_run.Reads as wardlatch-run
 use Rattle.firmware.proofs.wardlatch_read.Reads as wardlatch-read
@@ -141,6 +140,4 @@ wardlatch_validate_unique a r₁ r₂ s₁ s₂ p q = p ∙ sym q
 pub wardlatch_to_errno_unique :
     (κs : _) (a : _) (r₁ r₂ : ℕ) (s₁ s₂ : _) → wardlatch-to-errno.Post κs a r₁ s₁ → wardlatch-to-errno.Post κs a r₂ s₂ →
     (r₁ ≡ r₂) × (s₁.1.0.now ≡ s₂.1.0.now)
-wardlatch_to_errno_unique κs a r₁ r₂ s₁ s₂ p q =
-    let e = p ∙ sym q in
-    (ap (λ (x : Errno). x.code) e, ap (λ (x : Errno). x.value) e)
+wardlatch_to_errno_unique κs a r₁ r₂ s₁ s₂ p q = (p.0 ∙ sym q.0, p.1 ∙ sym q.1)

@@ -126,11 +126,11 @@ fn settle(domain: &mut [u32], answer: Result<u32, Code>, next: MemDomain, slot: 
         *slot = 0;
         return answer::VALUE;
     }
-    if answer.is_ok() {
-        tables::store_domain(domain, 0, next);
-    }
     let told = Answer::from(answer);
     *slot = told.value;
+    if told.code == answer::OK {
+        tables::store_domain(domain, 0, next);
+    }
     told.code
 }
 

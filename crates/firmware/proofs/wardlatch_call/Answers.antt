@@ -1,5 +1,3 @@
-use borrow.Author.Rules.{rules}
-use Rattle.calls.proofs.call.Reads as call-reads
 use Rattle.firmware.proofs.wardlatch_call.Goals as goal
 
 pub shape_of-objects : goal.shape_of-objects

@@ -1,7 +1,5 @@
 use mathlib.Core.Path.{refl}
 use Rattle.firmware.proofs.Lent.{read_left}
-use borrow.Author.Rules.{rules}
-use Rattle.image.proofs.read.Reads as read-reads
 use Rattle.firmware.proofs.wardlatch_read.Goals as goal
 
 pub shape_of-objects : goal.shape_of-objects

@@ -1,5 +1,3 @@
-use borrow.Author.Rules.{rules}
-use Rattle.calls.proofs.run.Reads as run-reads
 use Rattle.firmware.proofs.wardlatch_run.Goals as goal
 
 pub shape_of-objects : goal.shape_of-objects

@@ -1,5 +1,3 @@
-use borrow.Author.Rules.{rules}
-use Rattle.image_write.proofs.write.Reads as write-reads
 use Rattle.firmware.proofs.wardlatch_write.Goals as goal
 
 pub shape_of-out : goal.shape_of-out
