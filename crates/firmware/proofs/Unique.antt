@@ -4,7 +4,7 @@ use mathlib.Core.Bool.{Bool}
 use Prim.Native.Nat.{ℕ}
 use Rattle.answer.specs.declared.Answer.{Answer}
 use Rattle.answer.specs.declared.Errno.{Errno}
-use Rattle.calls.specs.declared.Ran.{Ran}
+use Rattle.calls.specs.Calls.{Ran}
 use Rattle.mem_domain.specs.declared.Got.{Got}
 use Rattle.firmware.proofs.wardlatch_call.Reads as wardlatch-call
 use Rattle.firmware.proofs.wardlatch_run.Reads as wardlatch-run

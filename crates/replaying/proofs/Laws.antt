@@ -1,6 +1,5 @@
 -- From the promises of `run` and of the lines to that of a printed log; and what the functions below cite of numbers and parts.
-use Rattle.std.proofs.Common.{◌≡◌, ℕ, ◌+◌, ◌-◌, ◌*◌, ◌/◌, ◌%◌, ◌<◌, ◌≤◌, Bool, true, false, cond, not, ◌||◌, eqb, ltb, leb, ◌≢◌, List, [], ◌∷◌, ◌++◌, length, take, drop, sym, refl, ap, ◌∙◌, subst, zero-add, arith, ltb-false, le-ltb, lt-ltb, ne_eqb, leb-false, leb-true}
-use borrow.Author.Tests.{not-true, not-false}
+use Rattle.std.proofs.Common.{◌≡◌, ℕ, ◌*◌, ◌<◌, ◌≤◌, Bool, true, false, cond, ◌||◌, eqb, ltb, leb, ◌≢◌, List, [], ◌∷◌, ◌++◌, length, sym, refl, ap, ◌∙◌, subst, zero-add, arith, ltb-false, le-ltb, lt-ltb, ne_eqb, leb-false, leb-true}
 use Rattle.answer.specs.Stores.{cat}
 use Rattle.lines.specs.declared.Put.{Put}
 use Rattle.text.specs.Text as Word
@@ -11,10 +10,10 @@ use Rattle.words.specs.Laws.{fits, answer_most}
 use Rattle.lines.specs.Steps.{Piece, piece, loosely, all, ◌then◌}
 use Rattle.lines.specs.Lines.{line_at, Lines, lines_answer, text_after, put_with}
 use Rattle.tables.specs.State.{State, state_of, Fit, objects_back, threads_back, domains_back}
-use Rattle.rules.specs.Rules.{Sound, keeps_test}
+use Rattle.rules.specs.Rules.{keeps_test}
 use Rattle.rules.proofs.Rules.{test_sound}
-use Rattle.calls.specs.declared.Ran.{Ran}
-use Rattle.calls.specs.Calls.{parts_in, ran_to, answers_to, run_answer, ran_parts, ran_with, Run}
+use Rattle.calls.specs.Calls.{Ran}
+use Rattle.calls.specs.Calls.{parts_in, ran_to, answers_to, run_answer, run_result, ran_parts, ran_with, Run}
 use Rattle.replaying.specs.Printing.{longest, line_in, lines_to, refusal_of, laid, print_answer, printed_parts, Printed}
 use Rattle.calls.proofs.Answers.{answers_length}
 use Rattle.replaying.proofs.Printed.{lines_are}
@@ -130,7 +129,7 @@ module _ (words : Bool) (first : ℕ) (os ts ss log out : List ℕ) where
           print_answer words first os ts ss log out (length text) ≡ put_with 0 (length (lines_to words first (state_of os ts ss) log (parts_in (length log)))) → Way
 
     way : Way
-    unfolding print_answer run_answer
+    unfolding print_answer run_answer run_result
     way = go (keeps_test os ts ss) (ltb (length out) (2 * parts_in (length log))) refl refl
       where
         go : (a b : Bool) → keeps_test os ts ss ≡ a → ltb (length out) (2 * parts_in (length log)) ≡ b → Way

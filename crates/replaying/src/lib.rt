@@ -14,7 +14,6 @@ ghost use Rattle.replaying.specs.Printing.{longest, line_in, refusal_of, laid, P
 ghost use Rattle.replaying.specs.Feeding.{cut_at, FedIs};
 
 use answer::{OK, ROOM, VALUE};
-use calls::Ran;
 use lines::Put;
 
 // How many bytes a call has.
@@ -65,10 +64,10 @@ fn put_text(first: u32, log: &[u8], out: &[u32], n: usize, words: bool, text: &m
 }
 
 // A line for every answer of a run.
-fn put_ran(first: u32, log: &[u8], out: &[u32], ran: Ran, words: bool, text: &mut [u8]) -> Put
-    ensures { Lines (line_in words first log.now out.now) (longest words) out.now ran.answers text.old result text.new }
+fn put_ran(first: u32, log: &[u8], out: &[u32], answers: usize, words: bool, text: &mut [u8]) -> Put
+    ensures { Lines (line_in words first log.now out.now) (longest words) out.now answers text.old result text.new }
 {
-    put_text(first, log, out, ran.answers, words, text)
+    put_text(first, log, out, answers, words, text)
 }
 
 // A log whose lines have no room: that is said of a state only.
@@ -103,14 +102,13 @@ fn print(
     if !has_room(log.len(), longest_line(words), text.len()) {
         return without_room(objects, threads, slots);
     }
-    let ran = calls::run(objects, threads, slots, log, out);
-    if ran.code != OK {
-        return Put {
-            code: ran.code,
+    match calls::run(objects, threads, slots, log, out) {
+        Ok(answers) => put_ran(first, log, out, answers, words, text),
+        Err(refusal) => Put {
+            code: answer::number(refusal),
             bytes: 0,
-        };
+        },
     }
-    put_ran(first, log, out, ran, words, text)
 }
 
 fn cut_at(n: usize, last: bool) -> usize
