@@ -4,13 +4,16 @@ use native.Mathlib.Numerals.{add-one}
 use native.Mathlib.Omega.{arith}
 use mathlib.Core.Path.{◌≡◌, refl, sym, ap, ◌∙◌}
 use mathlib.Core.Logic.{◌≢◌}
-use mathlib.Core.Bool.{true, false}
+use mathlib.Core.Bool.{Bool, true, false, cond}
+use lib.Dec.{ltb}
 use mathlib.Core.List.{List, [], ◌∷◌}
 use lib.Seq.{take_all}
 use lib.ListN.{length, get_or, set, take, drop, length-set, length-take, length-drop}
 use borrow.Author.Tests.{eq-eqb, ne_eqb, lt-ltb, le-ltb}
 use Rattle.answer.specs.declared.Answer.{Answer}
-use Rattle.answer.specs.declared.Code.TheVariants.{Ok, Short, Einval, Value, Room}
+use Rattle.answer.specs.declared.Code.TheVariants.{Ok as Ok·code, Short, Einval, Value, Room}
+use Rattle.std.specs.Prelude.{Result, Ok, Err}
+use Rattle.answer.specs.declared.Code.{Code}
 use Rattle.answer.specs.Answer.{number_of, refused}
 use Rattle.tables.specs.Table.{sized}
 use Rattle.tables.specs.State.{State, state_of, Fit, objects_back, threads_back, domains_back, flat_objects, flat_threads, flat_domains}
@@ -25,8 +28,8 @@ use Rattle.applying.proofs.Picture.{fit_after}
 use Rattle.applying.proofs.InRange.{applied_ok}
 use Rattle.call_laws.proofs.Keeps.{keeps_after}
 use Rattle.call_laws.proofs.Order.{heard_short, heard_long, heard_whole, left_other, left_whole}
-use Rattle.calls.specs.Calls.{answered, Called, part_at, parts_in, put_answer, ran_to, answers_to, run_answer, ran_with, ran_parts, Run}
-use Rattle.calls.specs.declared.Ran.{Ran}
+use Rattle.calls.specs.Calls.{answered, Called, part_at, parts_in, put_answer, ran_to, answers_to, run_answer, run_result, ran_by, ran_with, ran_parts, Run, Ends}
+use Rattle.calls.specs.Calls.{Ran}
 use Rattle.calls.specs.Steps.{Applied, Stepped, Told, Ranged}
 
 module _ {os ts ss : List ℕ} (sound : Sound os ts ss) where
@@ -226,7 +229,7 @@ room_short n m ne h = let e : parts_in n ≡ n / 16 + 1 = rw (ne_eqb _ 0 ne) in 
 -- ---- a run
 module _ (os ts ss log out : List ℕ) where
   pub run_unsound : keeps_test os ts ss ≡ false → Run os ts ss log out (ran_with (number_of Value) 0) os ts ss out
-  unfolding run_answer answers_to
+  unfolding run_answer run_result answers_to
   run_unsound e =
       let a : run_answer os ts ss log out ≡ ran_with (number_of Value) 0 = rw e in
       record {
@@ -254,12 +257,38 @@ module _ (os ts ss log out : List ℕ) where
 
   module _ (e : keeps_test os ts ss ≡ true) where
     pub run_room : Sound os ts ss → length out < 2 * parts_in (length log) → Run os ts ss log out (ran_with (number_of Room) 0) os ts ss out
-    unfolding run_answer
+    unfolding run_answer run_result
     run_room sound h = ran 0 e (rw (e, lt-ltb _ _ h)) refl (ran_none (state_of os ts ss) log out sound refl)
 
     pub run_done :
         {os' ts' ss' out' : List ℕ} → 2 * parts_in (length log) ≤ length out →
         Ranged (state_of os ts ss) log out (parts_in (length log)) os' ts' ss' out' →
-        Run os ts ss log out (ran_with (number_of Ok) (parts_in (length log))) os' ts' ss' out'
-    unfolding run_answer
+        Run os ts ss log out (ran_with (number_of Ok·code) (parts_in (length log))) os' ts' ss' out'
+    unfolding run_answer run_result
     run_done h p = ran (parts_in (length log)) e (rw (e, le-ltb _ _ h)) refl p
+
+-- the same of the Result: what the tests lead to, with what was promised of the numbers
+module _ (os ts ss log out : List ℕ) where
+  pub ends_unsound : keeps_test os ts ss ≡ false → Ends os ts ss log out (Err Value) os ts ss out
+  unfolding run_result
+  ends_unsound e = record { answer = rw e; run = run_unsound os ts ss log out e }
+
+  pub ends_room : keeps_test os ts ss ≡ true → Sound os ts ss → length out < 2 * parts_in (length log) → Ends os ts ss log out (Err Room) os ts ss out
+  unfolding run_result
+  ends_room e sound h = record { answer = rw (e, lt-ltb _ _ h); run = run_room os ts ss log out e sound h }
+
+  pub ends_done :
+      keeps_test os ts ss ≡ true → {os' ts' ss' out' : List ℕ} → 2 * parts_in (length log) ≤ length out →
+      Ranged (state_of os ts ss) log out (parts_in (length log)) os' ts' ss' out' → Ends os ts ss log out (Ok (parts_in (length log))) os' ts' ss' out'
+  unfolding run_result
+  ends_done e h p = record { answer = rw (e, le-ltb _ _ h); run = run_done os ts ss log out e h p }
+
+-- an Err is never OK's number
+pub never_ok : (os ts ss log out : List ℕ) (e : Code) → Err e ≡ run_result os ts ss log out → number_of e ≢ 0
+unfolding run_result
+never_ok os ts ss log out e q = go (keeps_test os ts ss) (ltb (length out) (2 * parts_in (length log))) q
+  where
+    go : (a b : Bool) → Err e ≡ cond a (cond b (Err Room) (Ok (parts_in (length log)))) (Err Value) → number_of e ≢ 0
+    go true true p z = absurd (omega (arith, ap (λ (r : Result ℕ Code). (ran_by r).code) p))
+    go true false p z = absurd (cc)
+    go false b p z = absurd (omega (arith, ap (λ (r : Result ℕ Code). (ran_by r).code) p))

@@ -12,7 +12,7 @@ use Rattle.rules.proofs.Rules.{sound_test}
 use Rattle.decoding.specs.Calls.{call_of}
 use Rattle.judging.specs.Judge.{judge_in, heard}
 use Rattle.judging.specs.Change.{left}
-use Rattle.calls.specs.declared.Ran.{Ran}
+use Rattle.calls.specs.Calls.{Ran}
 use Rattle.calls.specs.Calls.{Called, part_at, ran_to, objects_left, threads_left, slots_left, ran_parts, Run}
 use Rattle.calls.specs.Steps.{Stepped, Ranged}
 use Rattle.calls.proofs.Laws.{step_refused, step_done, hear_short, hear_long, hear_whole, call_heard}

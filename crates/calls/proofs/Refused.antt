@@ -18,8 +18,8 @@ use Rattle.decoding.specs.Calls.{call_of}
 use Rattle.judging.specs.Judge.{judge, heard}
 use Rattle.judging.specs.Change.{left}
 use Rattle.call_laws.proofs.Order.{heard_short, heard_long, heard_whole}
-use Rattle.calls.specs.declared.Ran.{Ran}
-use Rattle.calls.specs.Calls.{answered, Called, parts_in, ran_to, answers_to, run_answer, ran_with, ran_parts, Run}
+use Rattle.calls.specs.Calls.{Ran}
+use Rattle.calls.specs.Calls.{answered, Called, parts_in, ran_to, answers_to, run_answer, run_result, ran_with, ran_parts, Run}
 use Rattle.rules.proofs.Rules.{test_sound}
 
 -- nothing was changed
@@ -95,8 +95,10 @@ module _ (os ts ss log out : List ℕ) where
   -- the answer by the two tests
   by_tests : (b d : Bool) → keeps_test os ts ss ≡ b → ltb (length out) (2 * parts_in (length log)) ≡ d
       → run_answer os ts ss log out ≡ cond b (cond d (ran_with (number_of Room) 0) (ran_with (number_of Ok) (parts_in (length log)))) (ran_with (number_of Value) 0)
-  unfolding run_answer
-  by_tests b d e f = rw (e, f)
+  unfolding run_answer run_result
+  by_tests true true e f = rw (e, f)
+  by_tests true false e f = rw (e, f)
+  by_tests false d e f = rw e
 
   none_run : (b d : Bool) → keeps_test os ts ss ≡ b → ltb (length out) (2 * parts_in (length log)) ≡ d → (run_answer os ts ss log out).code ≢ 0
       → ran_parts os ts ss log out ≡ 0

@@ -2,7 +2,9 @@
 -- call; the four others are what these two stand on, inside.
 use mathlib.Core.Path.{◌≡◌, sym, ◌∙◌}
 use Rattle.answer.specs.declared.Answer.{Answer}
-use Rattle.calls.specs.declared.Ran.{Ran}
+use Prim.Native.Nat.{ℕ}
+use Rattle.std.specs.Prelude.{Result}
+use Rattle.answer.specs.declared.Code.{Code}
 use Rattle.calls.proofs.call.Reads as call
 use Rattle.calls.proofs.run.Reads as run
 use Rattle.calls.proofs.deciding.judge.Reads as judge
@@ -17,10 +19,12 @@ call_unique κs a r₁ r₂ s₁ s₂ p q =
     (p.answer ∙ sym q.answer, p.objects ∙ sym q.objects, p.threads ∙ sym q.threads, p.slots ∙ sym q.slots)
 
 pub run_unique :
-    (κs : _) (a : _) (r₁ r₂ : Ran) (s₁ s₂ : _) → run.Post κs a r₁ s₁ → run.Post κs a r₂ s₂ →
+    (κs : _) (a : _) (r₁ r₂ : Result ℕ Code) (s₁ s₂ : _) → run.Post κs a r₁ s₁ → run.Post κs a r₂ s₂ →
     (r₁ ≡ r₂) × (s₁.0.now ≡ s₂.0.now) × (s₁.1.0.now ≡ s₂.1.0.now) × (s₁.1.1.0.now ≡ s₂.1.1.0.now) × (s₁.1.1.1.1.0.now ≡ s₂.1.1.1.1.0.now)
 run_unique κs a r₁ r₂ s₁ s₂ p q =
-    (p.answer ∙ sym q.answer, p.objects ∙ sym q.objects, p.threads ∙ sym q.threads, p.slots ∙ sym q.slots, p.buffer ∙ sym q.buffer)
+    let p' = p.run in
+    let q' = q.run in
+    (p.answer ∙ sym q.answer, p'.objects ∙ sym q'.objects, p'.threads ∙ sym q'.threads, p'.slots ∙ sym q'.slots, p'.buffer ∙ sym q'.buffer)
 
 -- ---- inside
 

@@ -1,14 +1,14 @@
 -- What a call and a run over a log leave and answer, of tables of any length and content: VALUE where they are no state that keeps the rules.
 -- The meaning of one call is in judging/specs; here it is carried to the tables of numbers and folded over a log (docs/SPEC.md, 7.5, 7.22 and 7.88 to 7.93).
-use Rattle.std.specs.Prelude.{ℕ, zero, suc, ◌+◌, ◌*◌, ◌/◌, ◌%◌, ◌≡◌, cond, List, eqb, ltb, length, set, take, drop}
+use Rattle.std.specs.Prelude.{ℕ, zero, suc, ◌+◌, ◌*◌, ◌/◌, ◌%◌, ◌≡◌, cond, List, eqb, ltb, length, set, take, drop, Result, Ok, Err}
 use Rattle.answer.specs.declared.Answer.{Answer}
-use Rattle.answer.specs.declared.Code.TheVariants.{Ok, Value, Room}
-use Rattle.answer.specs.Answer.{number_of, refused}
+use Rattle.answer.specs.declared.Code.{Code}
+use Rattle.answer.specs.declared.Code.TheVariants.{Value, Room}
+use Rattle.answer.specs.Answer.{number_of, refused, done}
 use Rattle.tables.specs.State.{State, state_of, flat_objects, flat_threads, flat_domains}
 use Rattle.rules.specs.Rules.{keeps_test}
 use Rattle.judging.specs.Judge.{heard}
 use Rattle.judging.specs.Change.{left}
-use Rattle.calls.specs.declared.Ran.{Ran}
 
 -- ---- tables after: those of the state after; tables that keep no rules stay as they are
 module _ (os ts ss : List ℕ) (after : State → State) where
@@ -59,14 +59,26 @@ answers_to s log out zero = out
 answers_to s log out (suc k) = put_answer (answers_to s log out k) k (heard (ran_to s log k) (part_at log k))
 
 -- bad state VALUE, then too little room ROOM; else OK with the number of answers (SPEC 7.89)
+unfoldable pub run_result : List ℕ → List ℕ → List ℕ → List ℕ → List ℕ → Result ℕ Code
+run_result os ts ss log out =
+    cond (keeps_test os ts ss)
+    (cond (ltb (length out) (2 * parts_in (length log))) (Err Room) (Ok (parts_in (length log))))
+    (Err Value)
+
+-- the same as a number of the table and how many answers were written, as C gets it: none on a refusal
+pub record Ran : Type 0 where
+  pub code : ℕ
+  pub answers : ℕ
+
 abbrev pub ran_with : ℕ → ℕ → Ran
 ran_with code n = record { code = code; answers = n }
 
+abbrev pub ran_by : Result ℕ Code → Ran
+ran_by (Ok n) = ran_with done.code n
+ran_by (Err e) = ran_with (number_of e) 0
+
 unfoldable pub run_answer : List ℕ → List ℕ → List ℕ → List ℕ → List ℕ → Ran
-run_answer os ts ss log out =
-    cond (keeps_test os ts ss)
-    (cond (ltb (length out) (2 * parts_in (length log))) (ran_with (number_of Room) 0) (ran_with (number_of Ok) (parts_in (length log))))
-    (ran_with (number_of Value) 0)
+run_answer os ts ss log out = ran_by (run_result os ts ss log out)
 
 -- how many parts are run: all, or none where the run is refused
 abbrev pub ran_parts : List ℕ → List ℕ → List ℕ → List ℕ → List ℕ → ℕ
@@ -79,3 +91,8 @@ pub record Run (os ts ss log out : List ℕ) (r : Ran) (os' ts' ss' out' : List 
   pub threads : ts' ≡ threads_left os ts ss (λ s. ran_to s log (ran_parts os ts ss log out))
   pub slots : ss' ≡ slots_left os ts ss (λ s. ran_to s log (ran_parts os ts ss log out))
   pub buffer : out' ≡ answers_to (state_of os ts ss) log out (ran_parts os ts ss log out)
+
+-- the same of the Result
+pub record Ends (os ts ss log out : List ℕ) (r : Result ℕ Code) (os' ts' ss' out' : List ℕ) : Type 0 where
+  pub answer : r ≡ run_result os ts ss log out
+  pub run : Run os ts ss log out (ran_by r) os' ts' ss' out'

@@ -145,6 +145,7 @@ fn new_thread_fields(c: Call) -> bool
     c.b < THREADS && c.c < 2 && c.d == 0
 }
 
+// As `rules` asks it of a state's threads, inside: made public there it were one more promise, with edits of its own, for one line.
 fn is_home(d: u32) -> bool
     ensures { result ≡ ltb d 8 || eqb d 255 }
 {

@@ -11,7 +11,7 @@ ghost use Rattle.rules.specs.Rules.{Sound};
 ghost use Rattle.decoding.specs.Calls.{named};
 ghost use Rattle.judging.specs.Judge.{judge as judge·spec, heard};
 ghost use Rattle.judging.specs.Change.{after, left};
-ghost use Rattle.calls.specs.Calls.{Called, Run, parts_in, part_at, put_answer};
+ghost use Rattle.calls.specs.Calls.{Called, Ends, parts_in, part_at, put_answer};
 ghost use Rattle.calls.specs.Steps.{Applied, Stepped, Told, Ranged};
 
 use answer::{Answer, Code};
@@ -23,13 +23,6 @@ mod enacting_objects;
 
 // How many bytes a call has.
 const CALL: usize = 16;
-
-// What a run answers: the table's number, and how many answers were written.
-#[derive(Clone, Copy)]
-pub struct Ran {
-    pub code: u32,
-    pub answers: usize,
-}
 
 // What an operation changes. The calls of every day, validate, grant, release and check, change objects alone: they end early.
 #[tactic(auto, unfolding(applying::specs::Apply::enact_in, judging::specs::Change::thread_change, judging::specs::Change::domain_change))]
@@ -46,7 +39,8 @@ fn apply(objects: &mut [u64], threads: &mut [u32], slots: &mut [u32], operation:
     }
 }
 
-// One call, judged and, if it is answered OK, applied.
+// One call, judged and, if it is answered OK, applied. Here and below the tables go as a parameter each: of a struct that holds three `&mut` each function
+// would have to promise besides that each is still the same reference, and what lies behind it no shorter.
 fn step(objects: &mut [u64], threads: &mut [u32], slots: &mut [u32], c: Call) -> Answer
     requires { Sound objects.old threads.old slots.old }
     ensures { Stepped (judge·spec (state_of objects.old threads.old slots.old) c) (after (state_of objects.old threads.old slots.old) c) result objects.new threads.new slots.new }
@@ -70,7 +64,8 @@ fn put_answer(out: &mut [u32], k: usize, a: Answer)
     out[i + 1] = a.value;
 }
 
-// The k-th call of a log, its answer put in its place.
+// The k-th call of a log, its answer put in its place. By number: of iterators over sixteen bytes and two numbers each, a proof would have to say where they
+// stand, in the log's length and the buffer's.
 fn turn(
     objects: &mut [u64],
     threads: &mut [u32],
@@ -161,32 +156,23 @@ fn run_parts(
     }
 }
 
-// A whole log: the state is judged once. `out` takes code and value of each answer; what lies behind them stays.
+// A whole log: the state is judged once; how many answers were written. `out` takes code and value of each answer; what lies behind them stays.
 pub fn run(
     objects: &mut [u64],
     threads: &mut [u32],
     slots: &mut [u32],
     log: &[u8],
     out: &mut [u32],
-) -> Ran
-    ensures { Run objects.old threads.old slots.old log.now out.old result objects.new threads.new slots.new out.new }
+) -> Result<usize, Code>
+    ensures { Ends objects.old threads.old slots.old log.now out.old result objects.new threads.new slots.new out.new }
 {
     if !rules::keeps(objects, threads, slots) {
-        return Ran {
-            code: answer::VALUE,
-            answers: 0,
-        };
+        return Err(Code::Value);
     }
     let n = parts_in(log.len());
     if out.len() < 2 * n {
-        return Ran {
-            code: answer::ROOM,
-            answers: 0,
-        };
+        return Err(Code::Room);
     }
     run_parts(objects, threads, slots, log, out);
-    Ran {
-        code: answer::OK,
-        answers: n,
-    }
+    Ok(n)
 }

@@ -99,6 +99,7 @@ pub fn decode_bytewise(bytes: &[u8]) -> Call
     }
 }
 
+// `word_at` of bytes that are there: without a test for each, which is why there are two.
 fn word_in(bytes: &[u8; 16], i: usize) -> u32
     requires { i ≤ 12 }
     ensures { result ≡ word_at bytes.now i }

@@ -3,7 +3,7 @@ use mathlib.Core.Path.{◌≡◌, sym, ap, ◌∙◌}
 use mathlib.Core.Bool.{Bool}
 use Prim.Native.Nat.{ℕ}
 use Rattle.answer.specs.declared.Answer.{Answer}
-use Rattle.calls.specs.declared.Ran.{Ran}
+use Rattle.calls.specs.Calls.{Ran}
 use Rattle.firmware.specs.Lent.{Got}
 use Rattle.firmware.proofs.wardlatch_call.Reads as wardlatch-call
 use Rattle.firmware.proofs.wardlatch_run.Reads as wardlatch-run

@@ -6,8 +6,7 @@
 ghost use Rattle.std.specs.Prelude.{◌≡◌};
 ghost use Rattle.answer.specs.Answer.{code_in, errno_in, errno_of};
 ghost use Rattle.answer.specs.declared.Answer.{Answer};
-ghost use Rattle.calls.specs.declared.Ran.{Ran};
-ghost use Rattle.calls.specs.Calls.{Called, Run};
+ghost use Rattle.calls.specs.Calls.{Called, Ran, Run};
 ghost use Rattle.image_write.specs.Encode.{Written};
 ghost use Rattle.mem_partition.specs.Partition.{window_of, is_valid, overlap_of};
 ghost use Rattle.mem_domain.specs.Domain.{added, removed, has_free, contains_addr};
@@ -47,9 +46,16 @@ pub fn wardlatch_run(
 ) -> u32
     ensures { Run objects.old threads.old slots.old log.now out.old (record { code = result; answers = answers.new }) objects.new threads.new slots.new out.new }
 {
-    let ran = calls::run(objects, threads, slots, log, out);
-    *answers = ran.answers;
-    ran.code
+    match calls::run(objects, threads, slots, log, out) {
+        Ok(count) => {
+            *answers = count;
+            answer::OK
+        }
+        Err(code) => {
+            *answers = 0;
+            answer::number(code)
+        }
+    }
 }
 
 // Reads an image into the tables; in `left` how many bytes lie behind it, 0 on a refusal.

@@ -19,7 +19,7 @@ use Rattle.judging.specs.Change.{after, left}
 use Rattle.call_laws.proofs.Keeps.{keeps_left}
 use Rattle.call_laws.proofs.Order.{heard_whole, left_other, left_whole}
 use Rattle.call_laws.proofs.Changes.{after_refused}
-use Rattle.calls.specs.declared.Ran.{Ran}
+use Rattle.calls.specs.Calls.{Ran}
 use Rattle.calls.specs.Calls.{part_at, parts_in, ran_to, answers_to, ran_parts, Run}
 use Rattle.calls.specs.Steps.{Ranged}
 use Rattle.calls.proofs.Refused.{run_untouched, Finished, run_finished}

@@ -8,14 +8,11 @@ use borrow.Author.Tests.{lt-leb, le-leb, eq-eqb, ne_eqb, not-true, not-false}
 use mathlib.Core.Logic.{◌≢◌}
 use Rattle.domain_rules.proofs.All.{both}
 use Rattle.tables.specs.declared.Thread.{Thread}
-use Rattle.answer.specs.Answer.{plain, refused}
+use Rattle.answer.specs.Answer.{refused}
 use Rattle.answer.specs.declared.Answer.{Answer}
 use Rattle.answer.specs.declared.Code.{Code}
 use Rattle.answer.specs.declared.Code.TheVariants.{Einval, Eperm, Ebadf}
-use Rattle.userspace_decide.specs.Decide.{Validated, answer_of}
-use Rattle.userspace.specs.Userspace.{THREADS, validated}
-use Rattle.userspace_names.specs.declared.InitCheck.{InitCheck}
-use Rattle.userspace.specs.declared.KernelObject.{KernelObject}
+use Rattle.userspace.specs.Userspace.{THREADS}
 use Rattle.tables.specs.Table.{HANDLES, no_object}
 use Rattle.tables.specs.State.{State, object}
 use Rattle.rules.specs.Rules.{is_live, is_supervisor}
@@ -23,7 +20,7 @@ use Rattle.decoding.specs.declared.Call.{Call}
 use Rattle.decoding.specs.declared.Operation.{Operation}
 use Rattle.decoding.specs.declared.Operation.TheVariants.{Validate, Grant, Release, Check, Exit, Create, Delete, Revoke, Init, Uninit, Recycle, MakePublic, CreateThread, End, Inherit, Assign, Add, Remove}
 use Rattle.decoding.specs.Calls.{Op, op_of, named}
-use Rattle.judging.specs.Judge.{◌⇒◌⨾◌, live, supervisor, well_formed, Use, no_handle, taken, use_of, with_handle, rule, is_unknown, is_privileged, judge_op, judge, taken_in}
+use Rattle.judging.specs.Judge.{◌⇒◌⨾◌, live, supervisor, well_formed, Use, taken, use_of, with_handle, rule, is_unknown, is_privileged, judge_op, judge, taken_in}
 
 -- a callee's answer by its contract, and the branch that says what it is not
 pub via_no : {x y : Bool} → x ≡ y → x ≡ false → y ≡ false
@@ -102,22 +99,12 @@ module _ (o : Op) (s : State) (c : Call) where
       ∙ taken_is s c.a (rule o s c)
       ∙ ap (λ (x : Bool). cond x (rule o s c) (refused Ebadf)) h
 
-  pub to_rule_bare : well_formed o c ≡ true → use_of o ≡ no_handle → judge_op o s c ≡ rule o s c
-  unfolding with_handle
-  to_rule_bare e u = good_fields e ∙ ap (λ (x : Use). with_handle x s c.a (rule o s c)) u
-
 -- ---- fields, over plain truth values
 pub first_fails : {x : Bool} (y : Bool) → x ≡ false → x && y ≡ false
 first_fails y p = ap (λ (b : Bool). b && y) p
 
 pub second_fails : {x y : Bool} → x ≡ true → y ≡ false → x && y ≡ false
 second_fails {x} {y} p q = ap (λ (b : Bool). b && y) p ∙ q
-
--- a live thread with that handle, as the code finds it
-pub all_of_first :
-    (h : ℕ) {who it : Thread} → who ≡ it → who.role ≢ 0 →
-    not (eqb it.role 0) && eqb it.handle h ≡ eqb who.handle h
-all_of_first h {who} {it} e ne = rw (← e, ne_eqb who.role 0 ne)
 
 -- the caller's record as the code has it
 module _ {me it : Thread} (e : me ≡ it) where
@@ -183,13 +170,3 @@ module _ (s : State) (c : Call) where
         pub theirs : is_privileged (op_of c.op) ≡ true → supervisor s c.caller ≡ true → judge s c ≡ judge_op (op_of c.op) s c
         unfolding judge
         theirs p y = pass Einval _ (lt-leb _ _ known) ∙ pass_not Eperm _ lives ∙ pass Einval _ op ∙ pass Eperm _ (second_fails p (ap not y))
-
--- a validation's answer has value 0, whatever it is
-pub validated_plain : {v w : Validated} → v ≡ w → plain (answer_of v).code ≡ answer_of w
-validated_plain e = ap answer_of e
-
--- the same validation of the same things
-pub validated_same :
-    (t : ℕ) {o o' : KernelObject} {n n' : ℕ} {b b' : Bool} {m m' : InitCheck} → o ≡ o' → n ≡ n' → b ≡ b' → m ≡ m' →
-    validated o n t b m ≡ validated o' n' t b' m'
-validated_same t p e q r = rw (p, q, r, e)

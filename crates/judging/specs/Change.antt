@@ -1,15 +1,14 @@
 -- What each call changes when it is answered OK: one of the three tables at most, but for a thread's end; a refusal changes nothing (docs/SPEC.md, 7.20 on).
-use Rattle.std.specs.Prelude.{ℕ, ◌%◌, Bool, cond, List, [], ◌∷◌, map, eqb, get_or, set}
+use Rattle.std.specs.Prelude.{ℕ, ◌%◌, cond, List, [], map, eqb, get_or, set}
 use Rattle.mem_partition.specs.declared.MemPartition.{MemPartition}
 use Rattle.mem_domain.specs.Domain.{with_count, added, removed}
 use Rattle.userspace.specs.declared.KernelObject.{KernelObject}
-use Rattle.bits.specs.Bit.{is_set}
 use Rattle.userspace.specs.Userspace.{holds, new_object, granted, revoked, recycled, initiated, uninitiated, published}
 use Rattle.tables.specs.declared.Thread.{Thread}
 use Rattle.tables.specs.Table.{no_object, nobody}
 use Rattle.tables.specs.State.{State}
 use Rattle.decoding.specs.declared.Call.{Call}
-use Rattle.decoding.specs.Calls.{Sup, create, delete, revoke, init, uninit, recycle, publish, thread, end, inherit, assign, add, remove, Op, validate, grant, release, check, exit, sup, unknown, op_of, call_of}
+use Rattle.decoding.specs.Calls.{create, delete, revoke, init, uninit, recycle, publish, thread, end, inherit, assign, add, remove, Op, validate, grant, release, check, exit, sup, unknown, op_of, call_of}
 use Rattle.judging.specs.Judge.{partition_of, judge, heard}
 
 -- what happens to a table: nothing, record i goes through f, or each record does

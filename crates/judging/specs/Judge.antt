@@ -1,5 +1,5 @@
 -- What each call answers: docs/SPEC.md, 7. A refusal is a test with its name; the first that holds is the answer (SPEC 7.7).
-use Rattle.std.specs.Prelude.{ℕ, Bool, true, false, cond, not, ◌&&◌, ◌||◌, List, [], eqb, ltb, leb, length, get_or}
+use Rattle.std.specs.Prelude.{ℕ, Bool, true, false, cond, not, ◌&&◌, ◌||◌, List, eqb, ltb, leb, length, get_or}
 use Rattle.answer.specs.declared.Answer.{Answer}
 use Rattle.answer.specs.declared.Code.{Code}
 use Rattle.answer.specs.declared.Code.TheVariants.{Einval, Eperm, Ebadf, Eaddrinuse, Short, Value}
@@ -13,8 +13,7 @@ use Rattle.userspace.specs.declared.KernelObject.{KernelObject}
 use Rattle.userspace_names.specs.declared.InitCheck.TheVariants.{MustBeInit, MustNotBeInit, DontCare}
 use Rattle.userspace_decide.specs.Decide.{answer_of}
 use Rattle.userspace.specs.Userspace.{THREADS, access, validated}
-use Rattle.tables.specs.declared.Thread.{Thread}
-use Rattle.tables.specs.Table.{HANDLES, DOMAINS, sized, no_object, nobody}
+use Rattle.tables.specs.Table.{HANDLES, DOMAINS, sized, no_object}
 use Rattle.tables.specs.State.{State, state_of, object, thread, domain}
 use Rattle.rules.specs.Rules.{is_live, is_supervisor}
 use Rattle.mem_check.specs.Memory.{memory_rule}
@@ -200,36 +199,6 @@ judge_in os ts ss c = cond (sized (length os) (length ts) (length ss)) (judge (s
 -- a handle that is below 256 and taken
 unfoldable pub taken_in : List KernelObject → ℕ → Bool
 taken_in os h = ltb h HANDLES && not (eqb (get_or os h no_object).obj_type 0)
-
--- thread t lives and has object h as its handle
-abbrev pub serving_at : List Thread → ℕ → ℕ → Bool
-serving_at ts h t = is_live (get_or ts t nobody) && eqb (get_or ts t nobody).handle h
-
--- the memory check and the exit, of what they read
-unfoldable pub check_in : List Thread → List (List MemPartition) → Call → Answer
-check_in ts ds c =
-    not (well_formed check c) ⇒ Einval
-    ⨾ memory_rule (get_or ds (get_or ts c.caller nobody).domain []) (is_supervisor (get_or ts c.caller nobody)) c.b c.c (eqb c.d 1)
-
-unfoldable pub exit_in : Call → Answer
-exit_in c = not (well_formed exit c) ⇒ Einval ⨾ done
-
--- create's handle; a thread that is named has to live; of two, the first is judged first
-unfoldable pub create_in : List KernelObject → ℕ → Answer
-create_in os h = leb HANDLES h ⇒ Ebadf ⨾ not (eqb (get_or os h no_object).obj_type 0) ⇒ Eaddrinuse ⨾ done
-
-unfoldable pub named_in : List Thread → ℕ → Answer
-named_in ts t = not (is_live (get_or ts t nobody)) ⇒ Einval ⨾ done
-
-unfoldable pub inherit_in : List Thread → ℕ → ℕ → Answer
-inherit_in ts t u = not (is_live (get_or ts t nobody)) ⇒ Einval ⨾ named_in ts u
-
--- add and remove, of the domains
-unfoldable pub add_in : List (List MemPartition) → Call → Answer
-add_in ds c = not (well_formed (sup add) c) ⇒ Einval ⨾ slot_answer (added (with_count (get_or ds c.a [])) (partition_of c))
-
-unfoldable pub remove_in : List (List MemPartition) → Call → Answer
-remove_in ds c = not (well_formed (sup remove) c) ⇒ Einval ⨾ slot_answer (removed (with_count (get_or ds c.a [])) c.b c.c)
 
 -- a handle and nothing else; a handle and a thread
 abbrev pub bare_fields : Call → Bool

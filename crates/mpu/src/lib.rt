@@ -81,6 +81,7 @@ fn region_rights(rasr: u32) -> u32
     with_execute(ap_rights((rasr >> 24) % 8), (rasr >> 28) % 2)
 }
 
+// A plan is words, as C lends them: region k has two, read by their places. Its number is its place, so the loops below count places and not pairs.
 fn rbar_at(plan: &[u32], k: usize) -> u32
     requires { k < regions_of plan.now }
     ensures { result ≡ rbar_at plan.now k }

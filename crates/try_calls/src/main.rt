@@ -174,7 +174,11 @@ fn run(
         &mut out[..m],
     );
     word(rt, "run ")?;
-    answered(rt, r.code, r.answers as u64, state(objects, threads, slots))?;
+    let (code, answers) = match r {
+        Ok(answers) => (answer::OK, answers),
+        Err(refusal) => (answer::number(refusal), 0),
+    };
+    answered(rt, code, answers as u64, state(objects, threads, slots))?;
     left_in(rt, out, m)
 }
 
