@@ -5,25 +5,23 @@
 // in which order, no contract can say.
 #![tactic(auto)]
 
-ghost use Rattle.std.specs.Prelude.{◌≡◌, cond, ◌&&◌, not, ◌+◌, ◌≤◌, ◌<◌, eqb, length, get_or, IfOk};
+ghost use Rattle.std.specs.Prelude.{◌≡◌, ◌^◌, ◌<◌, IfOk};
 ghost use Rattle.rules.specs.Rules.{Sound};
-ghost use Rattle.command.specs.Ready.{Roomy, Ready};
+ghost use Rattle.command.specs.Ready.{Roomy, IsReady};
 ghost use Rattle.command.specs.Counts.{IsPrefixLen};
 
+use replaying::Style;
 use std::env::{Env, FillError};
 use std::fs::Files;
 use std::io::{Print, Read, Stderr, Stdin, Stdout, Write};
 use std::{fs, io, str};
 
-// The exit statuses.
-pub const DONE: u32 = 0;
-
-pub const REFUSED: u32 = 1;
-
-pub const FAILED: u32 = 2;
-
-// Inside: the input has not ended.
-const ON: u32 = 3;
+// Why the command ends otherwise than it was asked: the image was refused, or something failed; either was told.
+#[derive(Clone, Copy)]
+enum Stopped {
+    Refused,
+    Failed,
+}
 
 // The longest image; what a file has behind an image is ignored.
 const IMAGE: usize = 5136;
@@ -60,11 +58,9 @@ pub struct Streams {
 // ---- what is said
 
 // One line on standard error.
-fn complain(errors: Stderr, line: &[u8]) -> u32
-    ensures { result ≡ 2 }
-{
+fn complain(errors: Stderr, line: &[u8]) -> Stopped {
     let _ = Print::write_all(&errors, line);
-    FAILED
+    Stopped::Failed
 }
 
 // The system's words for why; std puts the error's number behind them, which is not said here.
@@ -84,9 +80,7 @@ fn put_words(errors: Stderr, why: io::Error) {
 }
 
 // What failed, and the system's words for why.
-fn fail(errors: Stderr, what: &[u8], why: io::Error) -> u32
-    ensures { result ≡ 2 }
-{
+fn fail(errors: Stderr, what: &[u8], why: io::Error) -> Stopped {
     complain(errors, b"replay: ");
     complain(errors, what);
     complain(errors, b": ");
@@ -94,43 +88,23 @@ fn fail(errors: Stderr, what: &[u8], why: io::Error) -> u32
     complain(errors, b"\n")
 }
 
-// The first n bytes, to standard output.
-fn emit(streams: Streams, text: &[u8], n: usize, status: u32) -> u32
-    requires { (n ≤ length text.now) × (status < 4) }
-    ensures { result < 4 }
-{
-    match Print::write_all(&streams.output, &text[..n]) {
-        Ok(()) => status,
-        Err(why) => fail(streams.errors, b"standard output", why),
-    }
-}
-
-fn print(streams: Streams, text: &[u8]) -> u32
-    ensures { result < 3 }
-{
+// To standard output; where it fails, that was told.
+fn print(streams: Streams, text: &[u8]) -> Result<(), Stopped> {
     match Print::write_all(&streams.output, text) {
-        Ok(()) => DONE,
-        Err(why) => fail(streams.errors, b"standard output", why),
+        Ok(()) => Ok(()),
+        Err(why) => Err(fail(streams.errors, b"standard output", why)),
     }
 }
 
-fn help(streams: Streams) -> u32
-    ensures { result < 3 }
-{
-    let usage = print(
+fn help(streams: Streams) -> Result<(), Stopped> {
+    print(
         streams,
         b"replay IMAGE < CALLS            an answer and a value a call, in decimal\nreplay --explain IMAGE < CALLS  the same in words\n",
-    );
-    if usage != DONE {
-        return usage;
-    }
-    let options = print(
+    )?;
+    print(
         streams,
         b"replay --help, -h               this text\nreplay --version                what this is\nreplay [--explain] -- IMAGE     an IMAGE whose name begins with -\n",
-    );
-    if options != DONE {
-        return options;
-    }
+    )?;
     print(
         streams,
         b"IMAGE is a state as docs/SPEC.md has it; a call is sixteen bytes. A refused image\nprints its answer and 0, and no call is read. A last part under sixteen bytes is 7 0.\nExit status: 0 done, 1 the image was refused, 2 usage, or a file or output that failed.\n",
@@ -139,98 +113,58 @@ fn help(streams: Streams) -> u32
 
 // ---- what is asked for
 
-// A word can only raise it: no file yet, one, more than one, an unknown option, the version, help.
-const NO_FILE: u32 = 0;
+// What the words up to here ask for: a file is the number of the argument that names it. A word can only raise it.
+#[derive(Clone, Copy, PartialEq, Eq, PartialOrd, Ord)]
+enum Task {
+    NoFile,
+    OneFile(usize),
+    MoreFiles,
+    Unknown,
+    Version,
+    Help,
+}
 
-const ONE_FILE: u32 = 1;
-
-const MORE_FILES: u32 = 2;
-
-const UNKNOWN: u32 = 3;
-
-const VERSION: u32 = 4;
-
-const HELP: u32 = 5;
-
-// What the words up to here ask for; whether lines are to be in words; whether an option may still come; which argument names the image.
+// The task, how answers are to be told, and whether an option may still come.
 #[derive(Clone, Copy)]
 struct Asked {
-    what: u32,
-    words: bool,
+    task: Task,
+    style: Style,
     options: bool,
-    image: usize,
 }
 
-fn raised(a: Asked, what: u32) -> Asked
-    requires { (a.what < 6) × (what < 6) }
-    ensures { result.what < 6 }
-{
-    if a.what < what {
-        return Asked {
-            what,
-            words: a.words,
-            options: a.options,
-            image: a.image,
-        };
+fn raised(a: Asked, task: Task) -> Asked {
+    Asked {
+        task: a.task.max(task),
+        ..a
     }
-    a
 }
 
-fn with_file(a: Asked, i: usize) -> Asked
-    requires { a.what < 6 }
-    ensures { result.what < 6 }
-{
-    if a.what == NO_FILE {
-        return Asked {
-            what: ONE_FILE,
-            words: a.words,
-            options: a.options,
-            image: i,
-        };
+fn with_file(a: Asked, i: usize) -> Asked {
+    match a.task {
+        Task::NoFile => raised(a, Task::OneFile(i)),
+        _ => raised(a, Task::MoreFiles),
     }
-    raised(a, MORE_FILES)
 }
 
-fn with_option(a: Asked, word: &[u8]) -> Asked
-    requires { a.what < 6 }
-    ensures { result.what < 6 }
-{
+fn with_option(a: Asked, word: &[u8]) -> Asked {
     match word {
         b"--" => Asked {
-            what: a.what,
-            words: a.words,
             options: false,
-            image: a.image,
+            ..a
         },
         b"--explain" => Asked {
-            what: a.what,
-            words: true,
-            options: a.options,
-            image: a.image,
+            style: Style::Words,
+            ..a
         },
-        b"--version" => raised(a, VERSION),
-        b"--help" | b"-h" => raised(a, HELP),
-        _ => raised(a, UNKNOWN),
+        b"--version" => raised(a, Task::Version),
+        b"--help" | b"-h" => raised(a, Task::Help),
+        _ => raised(a, Task::Unknown),
     }
 }
 
-fn is_option(word: &[u8]) -> bool
-    ensures { result ≡ (not (eqb (length word.now) 0) && eqb (get_or word.now 0 0) 45) }
-{
-    if word.len() == 0 {
-        return false;
-    }
-    word[0] == b'-'
-}
-
-fn with_word(a: Asked, word: &[u8], i: usize) -> Asked
-    requires { a.what < 6 }
-    ensures { result.what < 6 }
-{
-    if a.options {
-        if is_option(word) {
-            return with_option(a, word);
-        }
+fn with_word(a: Asked, word: &[u8], i: usize) -> Asked {
+    if a.options && word.starts_with(b"-") {
+        return with_option(a, word);
     }
     with_file(a, i)
 }
@@ -260,26 +194,19 @@ fn argument_count<R: Env>(rt: &R) -> usize {
     usize::MAX
 }
 
-fn with_argument<R: Env>(rt: &R, a: Asked, i: usize) -> Asked
-    requires { a.what < 6 }
-    ensures { result.what < 6 }
-{
+fn with_argument<R: Env>(rt: &R, a: Asked, i: usize) -> Asked {
     let mut word = [0u8; WORD];
     let n = argument(rt, i, &mut word);
     with_word(a, &word[..n], i)
 }
 
-fn all_asked<R: Env>(rt: &R) -> Asked
-    ensures { result.what < 6 }
-{
+fn all_asked<R: Env>(rt: &R) -> Asked {
     let mut a = Asked {
-        what: NO_FILE,
-        words: false,
+        task: Task::NoFile,
+        style: Style::Numbers,
         options: true,
-        image: 0,
     };
-    let n = argument_count(rt);
-    for i in 1..n {
+    for i in 1..argument_count(rt) {
         a = with_argument(rt, a, i);
     }
     a
@@ -287,198 +214,143 @@ fn all_asked<R: Env>(rt: &R) -> Asked
 
 // ---- reading
 
-// What a reading brought: how many bytes, and why it failed.
-#[derive(Clone, Copy)]
-struct Got {
-    bytes: usize,
-    failed: Option<io::Error>,
-}
-
-// One reading into a buffer from a place on: what has come by now, none at the input's end.
-fn read_more<R: Read>(input: &mut R, buf: &mut [u8], from: usize) -> Got
-    requires { from ≤ length buf.old }
-    ensures { from + result.bytes ≤ length buf.new }
+// Reads until the buffer is full or the input ends, in whatever pieces it comes; how many bytes those are.
+fn fill<R: Read>(input: &mut R, buf: &mut [u8]) -> io::Result<usize>
+    ensures { IfOk result (λ n. IsPrefixLen n buf.new) }
 {
-    match input.read(&mut buf[from..]) {
-        Ok(bytes) => Got {
-            bytes,
-            failed: None,
-        },
-        Err(why) => Got {
-            bytes: 0,
-            failed: Some(why),
-        },
-    }
-}
-
-// Reads until the buffer is full or the input ends, in whatever pieces it comes.
-fn fill<R: Read>(input: &mut R, buf: &mut [u8]) -> Got
-    ensures { IsPrefixLen result.bytes buf.new }
-{
-    let mut done: usize = 0;
+    let mut done = 0;
     while done < buf.len() {
-        let got = read_more(input, buf, done);
-        if got.failed.is_some() {
-            return got;
+        let n = input.read(&mut buf[done..])?;
+        if n == 0 {
+            return Ok(done);
         }
-        if got.bytes == 0 {
-            return Got {
-                bytes: done,
-                failed: None,
-            };
-        }
-        done += got.bytes;
+        done += n;
     }
-    Got {
-        bytes: done,
-        failed: None,
-    }
+    Ok(done)
 }
 
 // ---- the calls
 
-// Where the loop over the input stands: an exit status or ON, the bytes at the buffer's front, and the next call's number.
-#[derive(Clone, Copy)]
-struct Place {
-    status: u32,
+// A state, and the buffers through which calls come and answers go.
+#[derive(Drop)]
+struct Session<'a> {
+    objects: &'a mut [u64],
+    threads: &'a mut [u32],
+    slots: &'a mut [u32],
+    log: &'a mut [u8],
+    out: &'a mut [u32],
+    text: &'a mut [u8],
+    style: Style,
+    // The bytes at the log's front that wait for more, and the next call's number.
     have: usize,
     first: u32,
 }
 
-// Where nothing came, the input has ended.
-fn status_of(came: usize) -> u32
-    ensures { result ≡ cond (eqb came 0) 0 3 }
-{
-    if came == 0 {
-        return DONE;
-    }
-    ON
-}
-
-// What has come by now is answered and printed.
-fn turn(
-    streams: Streams,
-    objects: &mut [u64],
-    threads: &mut [u32],
-    slots: &mut [u32],
-    log: &mut [u8],
-    out: &mut [u32],
-    text: &mut [u8],
-    words: bool,
-    t: Place,
-) -> Place
-    requires { Ready words objects.old threads.old slots.old log.old out.old text.old t.have }
-    ensures { (result.status < 4) × Ready words objects.new threads.new slots.new log.new out.new text.new result.have }
+// What has come by now is answered and printed. Whether the input goes on: where nothing came, it has ended.
+fn turn(streams: Streams, session: &mut Session) -> Result<bool, Stopped>
+    requires { IsReady session.old }
+    ensures { IsReady session.new }
 {
     let mut input = streams.input;
-    let got = read_more(&mut input, log, t.have);
-    if let Some(why) = got.failed {
-        return Place {
-            status: fail(streams.errors, b"standard input", why),
-            have: t.have,
-            first: t.first,
-        };
-    }
+    let came = match input.read(&mut session.log[session.have..]) {
+        Ok(came) => came,
+        Err(why) => return Err(fail(streams.errors, b"standard input", why)),
+    };
     let fed = replaying::feed(
-        objects, threads, slots, t.first, log, t.have, got.bytes, words, out, text,
+        session.objects,
+        session.threads,
+        session.slots,
+        session.first,
+        session.log,
+        session.have,
+        came,
+        session.style,
+        session.out,
+        session.text,
     );
-    let put = fed.put;
-    Place {
-        status: emit(streams, text, put.bytes, status_of(got.bytes)),
-        have: fed.left,
-        first: fed.next,
-    }
-}
-
-fn no_end(errors: Stderr) -> u32
-    ensures { result ≡ 2 }
-{
-    complain(errors, b"replay: standard input does not end\n")
+    session.have = fed.left;
+    session.first = fed.next;
+    print(streams, &session.text[..fed.put.unwrap()])?;
+    Ok(came != 0)
 }
 
 // A proved loop has to end, and nothing says that the input does: the turns are counted up to a number that no run reaches.
-fn every(
+fn every(streams: Streams, session: &mut Session) -> Result<(), Stopped>
+    requires { IsReady session.old }
+{
+    for _ in 0..u64::MAX {
+        if !turn(streams, session)? {
+            return Ok(());
+        }
+    }
+    Err(complain(streams.errors, b"replay: standard input does not end\n"))
+}
+
+// With buffers for so many calls at a time: sixteen bytes and two numbers each, and the longest line.
+fn answer_all<const LOG: usize, const ANSWERS: usize, const LINES: usize>(
     streams: Streams,
     objects: &mut [u64],
     threads: &mut [u32],
     slots: &mut [u32],
-    log: &mut [u8],
-    out: &mut [u32],
-    text: &mut [u8],
-    words: bool,
-) -> u32
-    requires { Sound objects.old threads.old slots.old × Roomy words log.old out.old text.old }
-    ensures { result < 3 }
-{
-    let mut t = Place {
-        status: ON,
-        have: 0,
-        first: 1,
-    };
-    for _ in 0..u64::MAX {
-        t = turn(streams, objects, threads, slots, log, out, text, words, t);
-        if t.status < ON {
-            return t.status;
-        }
-    }
-    no_end(streams.errors)
-}
-
-fn in_numbers(streams: Streams, objects: &mut [u64], threads: &mut [u32], slots: &mut [u32]) -> u32
-    requires { Sound objects.old threads.old slots.old }
-    ensures { result < 3 }
+    style: Style,
+) -> Result<(), Stopped>
+    requires sound { Sound objects.old threads.old slots.old }
+    requires room { Roomy style LOG ANSWERS LINES }
+    requires small { (LOG < 2 ^ 40) × ((ANSWERS < 2 ^ 40) × (LINES < 2 ^ 40)) }
 {
     let mut log = [0u8; LOG];
     let mut out = [0u32; ANSWERS];
     let mut text = [0u8; LINES];
-    every(
-        streams, objects, threads, slots, &mut log, &mut out, &mut text, false,
-    )
-}
-
-fn in_words(streams: Streams, objects: &mut [u64], threads: &mut [u32], slots: &mut [u32]) -> u32
-    requires { Sound objects.old threads.old slots.old }
-    ensures { result < 3 }
-{
-    let mut log = [0u8; FEW_LOG];
-    let mut out = [0u32; FEW_ANSWERS];
-    let mut text = [0u8; FEW_LINES];
-    every(
-        streams, objects, threads, slots, &mut log, &mut out, &mut text, true,
-    )
+    let mut session = Session {
+        objects,
+        threads,
+        slots,
+        log: &mut log,
+        out: &mut out,
+        text: &mut text,
+        style,
+        have: 0,
+        first: 1,
+    };
+    every(streams, &mut session)
 }
 
 // ---- the image
 
 // A refused image: its answer and 0, and no call is read.
-fn refuse(streams: Streams, code: u32, words: bool) -> u32
-    ensures { result < 3 }
-{
+fn refuse(streams: Streams, code: u32, style: Style) -> Result<(), Stopped> {
     let mut text = [0u8; replaying::REFUSAL];
-    let put = replaying::put_refusal(code, words, &mut text);
-    let bytes = put.bytes;
-    match Print::write_all(&streams.output, &text[..bytes]) {
-        Ok(()) => REFUSED,
-        Err(why) => fail(streams.errors, b"standard output", why),
-    }
+    let bytes = replaying::put_refusal(code, style, &mut text).unwrap();
+    print(streams, &text[..bytes])?;
+    Err(Stopped::Refused)
 }
 
 // The image as bytes and, where it is a state, the calls.
-fn replay(streams: Streams, file: &[u8], words: bool) -> u32
-    ensures { result < 3 }
-{
+fn replay(streams: Streams, file: &[u8], style: Style) -> Result<(), Stopped> {
     let mut objects = [0u64; 512];
     let mut threads = [0u32; 192];
     let mut slots = [0u32; 384];
     let mut code = 0u32;
     image::read(file, &mut objects, &mut threads, &mut slots, &mut code);
     if code != answer::OK {
-        return refuse(streams, code, words);
+        return refuse(streams, code, style);
     }
-    if words {
-        return in_words(streams, &mut objects, &mut threads, &mut slots);
+    match style {
+        Style::Numbers => answer_all::<LOG, ANSWERS, LINES>(
+            streams,
+            &mut objects,
+            &mut threads,
+            &mut slots,
+            style,
+        ),
+        Style::Words => answer_all::<FEW_LOG, FEW_ANSWERS, FEW_LINES>(
+            streams,
+            &mut objects,
+            &mut threads,
+            &mut slots,
+            style,
+        ),
     }
-    in_numbers(streams, &mut objects, &mut threads, &mut slots)
 }
 
 // The system's number for bytes that are no text.
@@ -499,59 +371,61 @@ fn load<R: Files>(rt: &R, path: &[u8], file: &mut [u8]) -> io::Result<usize>
     ensures { IfOk result (λ n. IsPrefixLen n file.new) }
 {
     let mut opened = fs::open(rt, name_of(path)?)?;
-    let got = fill(&mut opened, file);
-    match got.failed {
-        None => Ok(got.bytes),
-        Some(why) => Err(why),
-    }
+    fill(&mut opened, file)
 }
 
-fn open<R: Files>(rt: &R, streams: Streams, path: &[u8], words: bool) -> u32
-    ensures { result < 3 }
-{
+fn open<R: Files>(rt: &R, streams: Streams, path: &[u8], style: Style) -> Result<(), Stopped> {
     let mut file = [0u8; IMAGE];
     match load(rt, path, &mut file) {
-        Ok(n) => replay(streams, &file[..n], words),
-        Err(why) => fail(streams.errors, path, why),
+        Ok(n) => replay(streams, &file[..n], style),
+        Err(why) => Err(fail(streams.errors, path, why)),
     }
 }
 
-fn open_argument<R: Env + Files>(rt: &R, streams: Streams, i: usize, words: bool) -> u32
-    ensures { result < 3 }
-{
+fn open_argument<R: Env + Files>(
+    rt: &R,
+    streams: Streams,
+    i: usize,
+    style: Style,
+) -> Result<(), Stopped> {
     let mut path = [0u8; WORD];
     let n = argument(rt, i, &mut path);
-    open(rt, streams, &path[..n], words)
+    open(rt, streams, &path[..n], style)
 }
 
 // ---- the command
+
+fn run<R: Env + Files>(rt: &R, streams: Streams) -> Result<(), Stopped> {
+    let a = all_asked(rt);
+    match a.task {
+        Task::NoFile => Err(complain(
+            streams.errors,
+            b"replay: an image file is needed; replay --help says more\n",
+        )),
+        Task::OneFile(i) => open_argument(rt, streams, i, a.style),
+        Task::MoreFiles => Err(complain(
+            streams.errors,
+            b"replay: one image file is needed, not two: the calls come from standard input; replay --help says more\n",
+        )),
+        Task::Unknown => Err(complain(
+            streams.errors,
+            b"replay: no such option; replay --help says more\n",
+        )),
+        Task::Version => print(
+            streams,
+            b"replay 1, of wardlatch: images WLATCH01, calls of sixteen bytes\n",
+        ),
+        Task::Help => help(streams),
+    }
+}
 
 // The whole of it. The status is 0, 1 or 2.
 pub fn wardlatch_replay<R: Env + Files>(rt: &R, streams: Streams) -> u32
     ensures { result < 3 }
 {
-    let a = all_asked(rt);
-    let what = a.what;
-    match what {
-        NO_FILE => complain(
-            streams.errors,
-            b"replay: an image file is needed; replay --help says more\n",
-        ),
-        ONE_FILE => open_argument(rt, streams, a.image, a.words),
-        MORE_FILES => {
-            complain(
-                streams.errors,
-                b"replay: one image file is needed, not two: the calls come from standard input; replay --help says more\n",
-            )
-        }
-        UNKNOWN => complain(
-            streams.errors,
-            b"replay: no such option; replay --help says more\n",
-        ),
-        VERSION => print(
-            streams,
-            b"replay 1, of wardlatch: images WLATCH01, calls of sixteen bytes\n",
-        ),
-        _ => help(streams),
+    match run(rt, streams) {
+        Ok(()) => 0,
+        Err(Stopped::Refused) => 1,
+        Err(Stopped::Failed) => 2,
     }
 }

@@ -1,5 +1,5 @@
-use Rattle.command.specs.Ready.{Ready}
+use Rattle.command.specs.Ready.{IsReady}
 use Rattle.command.proofs.every.Given as goal
 
 abbrev pub invariant-loop : goal.invariant-loop
-invariant-loop l = Ready l.words l.objects l.threads l.slots l.log l.out l.text l.t.have
+invariant-loop l = IsReady l.session

@@ -2,8 +2,8 @@ use Rattle.std.proofs.Common.{arith}
 use Rattle.image_laws.proofs.Promises.{read_keeps}
 use Rattle.command.proofs.replay.Goals as goal
 
-pub in_words-requires : goal.in_words-requires
-in_words-requires c = read_keeps c.read.ensures (omega arith)
+pub answer_all-requires-clause-sound : goal.answer_all-requires-clause-sound
+answer_all-requires-clause-sound c = read_keeps c.read.ensures (omega arith)
 
-pub in_numbers-requires : goal.in_numbers-requires
-in_numbers-requires c = read_keeps c.read.ensures (omega arith)
+pub answer_all-requires-in-Words-clause-sound : goal.answer_all-requires-in-Words-clause-sound
+answer_all-requires-in-Words-clause-sound c = read_keeps c.read.ensures (omega arith)

@@ -1,9 +1,19 @@
-use Rattle.std.proofs.Common.{refl}
-use Rattle.command.proofs.Laws.{same_room, fed_bytes, fed_ready, status_known}
+use Rattle.std.proofs.Common.{sym, length-take-le, rules}
+use Rattle.command.proofs.Laws.{fed_ok, fed_bytes, fed_ready, read_room}
 use Rattle.command.proofs.turn.Goals as goal
 
-pub emit-requires : goal.emit-requires
-emit-requires c = (fed_bytes c.feed-fed.ensures c.requires.sound (same_room c.read_more-got.auto.buf refl refl c.requires.room), status_known c.read_more-got.result.bytes c.status_of.ensures)
+pub unwrap-requires : goal.unwrap-requires
+unwrap-requires c = fed_ok c.feed-fed.ensures c.requires.sound (read_room _ _ _ _ c.read.auto.buf c.requires.room)
+
+pub slice_bounds-print-end-2 : goal.slice_bounds-print-end-2
+slice_bounds-print-end-2 c = sym (length-take-le _ _ (fed_bytes c.feed-fed.ensures c.requires.sound (read_room _ _ _ _ c.read.auto.buf c.requires.room) c.unwrap.ensures))
+
+pub returns-in_err-print : goal.returns-in_err-print
+returns-in_err-print c =
+    let ready = fed_ready c.feed-fed.ensures c.requires.sound (read_room _ _ _ _ c.read.auto.buf c.requires.room) c.feed-fed.auto.log c.feed-fed.auto.out c.feed-fed.auto.text in
+    search rules
 
 pub returns : goal.returns
-returns c = (c.emit.ensures, fed_ready c.feed-fed.ensures c.requires.sound (same_room c.read_more-got.auto.buf refl refl c.requires.room) c.feed-fed.auto.log c.feed-fed.auto.out c.feed-fed.auto.text)
+returns c =
+    let ready = fed_ready c.feed-fed.ensures c.requires.sound (read_room _ _ _ _ c.read.auto.buf c.requires.room) c.feed-fed.auto.log c.feed-fed.auto.out c.feed-fed.auto.text in
+    search rules
