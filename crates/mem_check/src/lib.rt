@@ -3,7 +3,7 @@
 // Promised, for any table: the answer of the byte-by-byte definition (specs/Memory.antt), the first address that is not covered included.
 #![tactic(auto)]
 
-ghost use Rattle.std.specs.Prelude.{◌≡◌, ◌+◌, ◌*◌, ◌^◌, ◌<◌, ◌≤◌, length};
+ghost use Rattle.std.specs.Prelude.{◌≡◌, ◌+◌, ◌*◌, ◌<◌, ◌≤◌, length};
 ghost use Rattle.bits.specs.Bit.{is_set};
 ghost use Rattle.tables.specs.Table.{partition_at, partitions_at};
 ghost use Rattle.mem_check.specs.Memory.{covered_run, slots_in, memory_rule, right_bit};
@@ -26,17 +26,11 @@ fn is_given(attr: u32, write: bool) -> bool
     attr & 1 != 0
 }
 
-fn wide(x: u32) -> u64
-    ensures { (result ≡ x) × (result < 2 ^ 32) }
-{
-    x as u64
-}
-
 // How far x lies behind start; where it lies before, a number that no size reaches. So one comparison with the size tells whether a window holds x.
 fn ahead_of(start: u32, x: u32) -> u64
     ensures { Ahead start x result }
 {
-    std::num::wrapping_sub_u64(wide(x), wide(start))
+    u64::from(x).wrapping_sub(u64::from(start))
 }
 
 // What slot n of the table covers from x on, 0 where it does not cover x. It lies within the table, so no index is tested.
@@ -47,7 +41,7 @@ fn run_in(slots: &[u32], n: usize, x: u32, write: bool) -> u32
     let i = 3 * n;
     let start = slots[i];
     let size = slots[i + 1];
-    if wide(size) <= ahead_of(start, x) {
+    if u64::from(size) <= ahead_of(start, x) {
         return 0;
     }
     if is_given(slots[i + 2], write) {
@@ -62,13 +56,11 @@ fn run_at(slots: &[u32], d: u32, x: u32, write: bool) -> u32
     ensures { Run (partitions_at slots.now d) write x result }
 {
     let first = SLOTS * (d as usize);
-    let mut k = 0;
-    while k < SLOTS {
+    for k in 0..SLOTS {
         let n = run_in(slots, first + k, x, write);
         if 0 < n {
             return n;
         }
-        k += 1;
     }
     0
 }
@@ -98,12 +90,13 @@ fn covered_in(slots: &[u32], d: u32, from: u32, len: u32, write: bool) -> u32
     requires { from + len ≤ 4294967295 }
     ensures { result ≡ covered_run (slots_in slots.now d) write from len }
 {
-    if (slots.len() as u64) < 3 * (WIDE_SLOTS * (d as u64) + WIDE_SLOTS) {
+    if (slots.len() as u64) < 3 * (WIDE_SLOTS * u64::from(d) + WIDE_SLOTS) {
         return 0;
     }
     covered(slots, d, from, len, write)
 }
 
+#[tactic(auto, unfolding(crate::specs::Memory::memory_rule, crate::specs::Memory::reached))]
 pub fn memory_check(
     slots: &[u32],
     domain: u32,
@@ -120,7 +113,7 @@ pub fn memory_check(
             value: 0,
         };
     }
-    if LAST < from as u64 + (len as u64) {
+    if LAST < u64::from(from) + u64::from(len) {
         return Answer {
             code: answer::EINVAL,
             value: 0,

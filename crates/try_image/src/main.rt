@@ -55,6 +55,7 @@ fn run(
     n: usize,
 ) -> io::Result<()> {
     let mut at = 0;
+    // a step is as long as it says itself: no range has these places
     while at < n {
         if at > 65520 {
             break;
@@ -118,46 +119,24 @@ fn put(bytes: &mut [u8], cases: &[u8; 65536], from: usize, op: u32, a: u32, b: u
 }
 
 fn load(bytes: &mut [u8], at: usize, cases: &[u8; 65536], from: usize, n: usize)
-    requires { (at < 4294967296) × (from ≤ 65536) × (n < 4294967296) }
+    requires { from ≤ 65536 }
 {
-    let mut k = 0;
-    while k < n {
-        if from + k >= 65536 {
-            return;
-        }
-        if at + k >= bytes.len() {
-            return;
-        }
-        bytes[at + k] = cases[from + k];
-        k += 1;
-    }
+    let to = at.min(bytes.len());
+    let len = n.min(cases.len() - from).min(bytes.len() - to);
+    bytes[to..to + len].copy_from_slice(&cases[from..from + len]);
 }
 
-fn fill(bytes: &mut [u8], at: usize, n: usize, v: u8)
-    requires { (at < 4294967296) × (n < 4294967296) }
-{
-    let mut k = 0;
-    while k < n {
-        if at + k >= bytes.len() {
-            return;
-        }
-        bytes[at + k] = v;
-        k += 1;
-    }
+fn fill(bytes: &mut [u8], at: usize, n: usize, v: u8) {
+    let to = at.min(bytes.len());
+    let len = n.min(bytes.len() - to);
+    bytes[to..to + len].fill(v);
 }
 
-fn back(bytes: &mut [u8], n: usize)
-    requires { n < 4294967296 }
-{
-    let mut k = 0;
-    while k < n {
-        if HALF + k >= bytes.len() {
-            return;
-        }
-        let v = bytes[HALF + k];
-        bytes[k] = v;
-        k += 1;
-    }
+fn back(bytes: &mut [u8], n: usize) {
+    let half = HALF.min(bytes.len());
+    let (front, behind) = bytes.split_at_mut(half);
+    let len = n.min(front.len()).min(behind.len());
+    front[..len].copy_from_slice(&behind[..len]);
 }
 
 // Steps 8 to 12 write a number of a table, so that any state can be written out, unsound ones too: b its lower word, c its upper.
@@ -170,23 +149,11 @@ fn number_step(
     b: u32,
     c: u32,
 ) {
-    let i = a as usize;
+    let i = u64::from(a);
     match op {
-        8 => set64(objects, i, wider(b) + wider(c) * 4294967296),
-        9 => set32(threads, i, b),
-        _ => set32(slots, i, b),
-    }
-}
-
-fn set64(xs: &mut [u64], i: usize, v: u64) {
-    if i < xs.len() {
-        xs[i] = v;
-    }
-}
-
-fn set32(xs: &mut [u32], i: usize, v: u32) {
-    if i < xs.len() {
-        xs[i] = v;
+        8 => tables::store(objects, i, u64::from(c) << 32 | u64::from(b)),
+        9 => tables::store(threads, i, b),
+        _ => tables::store(slots, i, b),
     }
 }
 
@@ -246,28 +213,19 @@ fn report(
     threads: &[u32],
     slots: &[u32],
 ) -> io::Result<()> {
-    figure(rt, code as u64)?;
+    figure(rt, u64::from(code))?;
     figure(rt, rest.len() as u64)?;
-    figure(rt, first(rest))?;
-    figure(rt, digest64(objects))?;
-    figure(rt, digest32(threads))?;
-    figure(rt, digest32(slots))?;
+    figure(rt, rest.first().map_or(256, |b| u64::from(*b)))?;
+    figure(rt, digest(objects))?;
+    figure(rt, digest(threads))?;
+    figure(rt, digest(slots))?;
     word(rt, "\n")
 }
 
 fn short_of(n: usize, cut: bool) -> usize
     ensures { result ≤ n }
 {
-    if cut {
-        if 0 < n {
-            return n - 1;
-        }
-    }
-    n
-}
-
-fn first(xs: &[u8]) -> u64 {
-    if 0 < xs.len() { long(xs[0]) } else { 256 }
+    if cut { n.saturating_sub(1) } else { n }
 }
 
 // Writes the tables into n bytes.
@@ -287,9 +245,9 @@ fn write(
         return Ok(());
     }
     let r = image_write::write(objects, threads, slots, &mut bytes[HALF..end]);
-    figure(rt, r.code as u64)?;
-    figure(rt, r.value as u64)?;
-    figure(rt, digest8(bytes))?;
+    figure(rt, u64::from(r.code))?;
+    figure(rt, u64::from(r.value))?;
+    figure(rt, digest(bytes))?;
     word(rt, "\n")
 }
 
@@ -304,12 +262,10 @@ fn read_again(
     b: u32,
     c: u32,
 ) -> io::Result<()> {
-    let mut good: u64 = 0;
-    let mut k: u32 = 0;
-    while k < a {
+    let mut good = 0u64;
+    for k in 0..a {
         fill(bytes, b as usize, 1, (every_other(k, c) % 256) as u8);
         good = read_once(objects, threads, slots, bytes, good);
-        k += 1;
     }
     figure(rt, good)?;
     word(rt, "\n")
@@ -337,12 +293,10 @@ fn write_again(
     b: u32,
     c: u32,
 ) -> io::Result<()> {
-    let mut good: u64 = 0;
-    let mut k: u32 = 0;
-    while k < a {
-        set64(objects, b as usize, wider(every_other(k, c)));
+    let mut good = 0u64;
+    for k in 0..a {
+        tables::store(objects, u64::from(b), u64::from(every_other(k, c)));
         good = write_once(objects, threads, slots, bytes, good);
-        k += 1;
     }
     figure(rt, good)?;
     word(rt, "\n")
@@ -354,10 +308,8 @@ fn write_once(objects: &[u64], threads: &[u32], slots: &[u32], bytes: &mut [u8],
 }
 
 fn one_more(good: u64, code: u32) -> u64 {
-    if code == answer::OK {
-        if good < 4294967295 {
-            return good + 1;
-        }
+    if code == answer::OK && good < 4294967295 {
+        return good + 1;
     }
     good
 }
@@ -373,34 +325,8 @@ fn stir(h: u64, x: u64) -> u64
     (h % 1000000007 * 131 + x % 4294967296 + x / 4294967296 * 7 + 1) % 1000000007
 }
 
-fn digest64(xs: &[u64]) -> u64 {
-    let mut h: u64 = 0;
-    let mut i = 0;
-    while i < xs.len() {
-        h = stir(h, xs[i]);
-        i += 1;
-    }
-    h
-}
-
-fn digest32(xs: &[u32]) -> u64 {
-    let mut h: u64 = 0;
-    let mut i = 0;
-    while i < xs.len() {
-        h = stir(h, wider(xs[i]));
-        i += 1;
-    }
-    h
-}
-
-fn digest8(xs: &[u8]) -> u64 {
-    let mut h: u64 = 0;
-    let mut i = 0;
-    while i < xs.len() {
-        h = stir(h, long(xs[i]));
-        i += 1;
-    }
-    h
+fn digest<T: Copy + Into<u64>>(xs: &[T]) -> u64 {
+    xs.iter().fold(0, |h, x| stir(h, (*x).into()))
 }
 
 fn figure(rt: &impl Print, n: u64) -> io::Result<()> {
@@ -412,30 +338,10 @@ fn word(rt: &impl Print, text: &str) -> io::Result<()> {
     rt.print(text)
 }
 
-fn wider(n: u32) -> u64
-    ensures { result < 4294967296 }
-{
-    n as u64
-}
-
-fn long(b: u8) -> u64 {
-    b as u64
-}
-
 // The little-endian word at a place of the list, and 0 past its end.
 fn number(cases: &[u8; 65536], at: usize) -> u32 {
     if at > 65532 {
         return 0;
     }
-    let b0 = wide(cases[at]);
-    let b1 = wide(cases[at + 1]);
-    let b2 = wide(cases[at + 2]);
-    let b3 = wide(cases[at + 3]);
-    b0 + b1 * 256 + b2 * 65536 + b3 * 16777216
-}
-
-fn wide(b: u8) -> u32
-    ensures { result < 256 }
-{
-    b as u32
+    u32::from_le_bytes([cases[at], cases[at + 1], cases[at + 2], cases[at + 3]])
 }

@@ -2,7 +2,7 @@
 // little-endian words to a step: its number, a place, and two words of a value. tests/tables/cases.py makes it, and works out `stdout` by a model.
 #![tactic(auto)]
 
-ghost use Rattle.std.specs.Prelude.{◌+◌, ◌<◌, ◌≤◌};
+ghost use Rattle.std.specs.Prelude.{◌+◌, ◌≤◌};
 ghost use Rattle.std.specs.Io.{ReadsAtMost};
 
 use mem_partition::MemPartition;
@@ -43,13 +43,8 @@ fn run(
     cases: &[u8; 65536],
     n: usize,
 ) -> io::Result<()> {
-    let mut at = 0;
-    while at < n {
-        step(rt, objects, threads, slots, cases, at)?;
-        if at > 65520 {
-            break;
-        }
-        at += 16;
+    for k in 0..n.min(65536).div_ceil(16) {
+        step(rt, objects, threads, slots, cases, 16 * k)?;
     }
     Ok(())
 }
@@ -90,17 +85,11 @@ fn step(
 
 // Steps 0 to 2 write numbers, so that any state can be tried, unsound ones too.
 fn set_object(objects: &mut [u64], a: u32, b: u32, c: u32) {
-    let i = a as usize;
-    if i < objects.len() {
-        objects[i] = wider(b) + wider(c) * 4294967296;
-    }
+    tables::store(objects, u64::from(a), u64::from(c) << 32 | u64::from(b));
 }
 
 fn set_number(xs: &mut [u32], a: u32, b: u32) {
-    let i = a as usize;
-    if i < xs.len() {
-        xs[i] = b;
-    }
+    tables::store(xs, u64::from(a), b);
 }
 
 // Judges the first a, b and c numbers of the tables.
@@ -116,43 +105,39 @@ fn judge(
     let x = a as usize;
     let y = b as usize;
     let z = c as usize;
-    if x <= objects.len() {
-        if y <= threads.len() {
-            if z <= slots.len() {
-                truth(rt, rules::keeps(&objects[..x], &threads[..y], &slots[..z]))?;
-            }
-        }
+    if x <= objects.len() && y <= threads.len() && z <= slots.len() {
+        truth(rt, rules::keeps(&objects[..x], &threads[..y], &slots[..z]))?;
     }
     Ok(())
 }
 
 fn show_object(rt: &impl Print, objects: &[u64], h: u32) -> io::Result<()> {
     let o = object_table::load_object(objects, h);
-    figure(rt, o.obj_type as u64)?;
-    figure(rt, o.flags as u64)?;
+    figure(rt, u64::from(o.obj_type))?;
+    figure(rt, u64::from(o.flags))?;
     figure(rt, o.word)?;
     word(rt, "\n")
 }
 
 fn show_thread(rt: &impl Print, threads: &[u32], t: u32) -> io::Result<()> {
     let r = tables::load_thread(threads, t);
-    figure(rt, r.role as u64)?;
-    figure(rt, r.domain as u64)?;
-    figure(rt, r.handle as u64)?;
+    figure(rt, u64::from(r.role))?;
+    figure(rt, u64::from(r.domain))?;
+    figure(rt, u64::from(r.handle))?;
     word(rt, "\n")
 }
 
 fn show_slot(rt: &impl Print, slots: &[u32], d: u32, k: u32) -> io::Result<()> {
     let p = tables::load_slot(slots, d, k);
-    figure(rt, p.start as u64)?;
-    figure(rt, p.size as u64)?;
-    figure(rt, p.attr as u64)?;
+    figure(rt, u64::from(p.start))?;
+    figure(rt, u64::from(p.size))?;
+    figure(rt, u64::from(p.attr))?;
     word(rt, "\n")
 }
 
 fn show_domain(rt: &impl Print, slots: &[u32], d: u32) -> io::Result<()> {
     let m = tables::load_domain(slots, d);
-    figure(rt, m.num_partitions as u64)?;
+    figure(rt, u64::from(m.num_partitions))?;
     truth(rt, domain_rules::is_sound(m))
 }
 
@@ -160,7 +145,7 @@ fn store_object(objects: &mut [u64], h: u32, b: u32, c: u32) {
     let o = KernelObject {
         obj_type: (b % 256) as u8,
         flags: (b / 256 % 256) as u8,
-        word: c as u64,
+        word: u64::from(c),
     };
     object_table::store_object(objects, h, o);
 }
@@ -200,11 +185,9 @@ fn again(
     b: u32,
     c: u32,
 ) -> io::Result<()> {
-    let mut good: u64 = 0;
-    let mut k: u32 = 0;
-    while k < a {
+    let mut good = 0u64;
+    for k in 0..a {
         good = round(objects, threads, slots, b, every_other(k, c), good);
-        k += 1;
     }
     figure(rt, good)?;
     word(rt, "\n")
@@ -218,20 +201,14 @@ fn round(objects: &mut [u64], threads: &[u32], slots: &[u32], b: u32, c: u32, go
     ensures { result ≤ good + 1 }
 {
     set_object(objects, b, c, 0);
-    if rules::keeps(objects, threads, slots) {
-        if good < 4294967295 {
-            return good + 1;
-        }
+    if rules::keeps(objects, threads, slots) && good < 4294967295 {
+        return good + 1;
     }
     good
 }
 
 fn truth(rt: &impl Print, b: bool) -> io::Result<()> {
-    if b {
-        word(rt, "yes\n")
-    } else {
-        word(rt, "no\n")
-    }
+    word(rt, if b { "yes\n" } else { "no\n" })
 }
 
 fn figure(rt: &impl Print, n: u64) -> io::Result<()> {
@@ -243,26 +220,10 @@ fn word(rt: &impl Print, text: &str) -> io::Result<()> {
     rt.print(text)
 }
 
-fn wider(n: u32) -> u64
-    ensures { result < 4294967296 }
-{
-    n as u64
-}
-
 // The little-endian word at a place of the list, and 0 past its end.
 fn number(cases: &[u8; 65536], at: usize) -> u32 {
     if at > 65532 {
         return 0;
     }
-    let b0 = wide(cases[at]);
-    let b1 = wide(cases[at + 1]);
-    let b2 = wide(cases[at + 2]);
-    let b3 = wide(cases[at + 3]);
-    b0 + b1 * 256 + b2 * 65536 + b3 * 16777216
-}
-
-fn wide(b: u8) -> u32
-    ensures { result < 256 }
-{
-    b as u32
+    u32::from_le_bytes([cases[at], cases[at + 1], cases[at + 2], cases[at + 3]])
 }
