@@ -1,5 +1,5 @@
 -- From the promises of `run` and of the lines to that of a printed log; and what the functions below cite of numbers and parts.
-use Rattle.std.proofs.Common.{◌≡◌, ℕ, ◌*◌, ◌<◌, ◌≤◌, Bool, true, false, cond, Result, Ok, Err, is_ok, ◌||◌, ltb, leb, ◌≢◌, List, [], ◌∷◌, ◌++◌, length, sym, refl, ap, ◌∙◌, subst, arith, ltb-false, le-ltb, lt-ltb, leb-false, leb-true}
+use Rattle.std.proofs.Common.{◌≡◌, ℕ, ◌*◌, ◌<◌, ◌≤◌, Bool, true, false, cond, Result, Ok, Err, is_ok, ◌||◌, ltb, leb, List, [], ◌∷◌, ◌++◌, length, sym, refl, ap, ◌∙◌, subst, arith, ltb-false, le-ltb, lt-ltb, leb-false, leb-true}
 use Rattle.answer.specs.Stores.{cat}
 use Rattle.answer.specs.declared.Code.{Code}
 use Rattle.answer.specs.declared.Code.TheVariants.{Value, Room}
@@ -10,8 +10,7 @@ use Rattle.lines.specs.Lines.{line_at, Lines, lines_answer, text_after}
 use Rattle.tables.specs.State.{State, state_of, Fit, objects_back, threads_back, domains_back}
 use Rattle.rules.specs.Rules.{keeps_test}
 use Rattle.rules.proofs.Rules.{test_sound}
-use Rattle.calls.specs.declared.Ran.{Ran}
-use Rattle.calls.specs.Calls.{parts_in, ran_to, answers_to, run_answer, ran_parts, ran_with, Run}
+use Rattle.calls.specs.Calls.{parts_in, ran_to, answers_to, run_result, run_answer, ran_by, ran_parts, Run, Ends}
 use Rattle.replaying.specs.declared.Style.{Style}
 use Rattle.replaying.specs.declared.Style.TheVariants.{Numbers, Words}
 use Rattle.replaying.specs.Printing.{longest, line_in, lines_to, refusal_of, laid, print_answer, printed_parts, Printed}
@@ -116,14 +115,14 @@ module _ (style : Style) (first : ℕ) (os ts ss log out : List ℕ) where
   module _ (text : List ℕ) (h : longest style * parts_in (length log) ≤ length text) where
     -- both refuse for the same reason, or both do it
     data Way : Type 0 where
-      unsound : run_answer os ts ss log out ≡ ran_with 9 0 → print_answer style first os ts ss log out (length text) ≡ Err Value → Way
-      small : run_answer os ts ss log out ≡ ran_with 11 0 → print_answer style first os ts ss log out (length text) ≡ Err Room → Way
+      unsound : run_result os ts ss log out ≡ Err Value → print_answer style first os ts ss log out (length text) ≡ Err Value → Way
+      small : run_result os ts ss log out ≡ Err Room → print_answer style first os ts ss log out (length text) ≡ Err Room → Way
       does :
-          2 * parts_in (length log) ≤ length out → run_answer os ts ss log out ≡ ran_with 0 (parts_in (length log)) →
+          2 * parts_in (length log) ≤ length out → run_result os ts ss log out ≡ Ok (parts_in (length log)) →
           print_answer style first os ts ss log out (length text) ≡ Ok (length (lines_to style first (state_of os ts ss) log (parts_in (length log)))) → Way
 
     way : Way
-    unfolding print_answer run_answer
+    unfolding print_answer run_result
     way = go (keeps_test os ts ss) (ltb (length out) (2 * parts_in (length log))) refl refl
       where
         go : (a b : Bool) → keeps_test os ts ss ≡ a → ltb (length out) (2 * parts_in (length log)) ≡ b → Way
@@ -131,18 +130,26 @@ module _ (style : Style) (first : ℕ) (os ts ss log out : List ℕ) where
         go true false e f = does (ltb-false _ _ f) (rw (e, f)) (rw (e, f, le-ltb _ _ h))
         go false b e f = unsound (rw e) (rw e)
 
+    -- how many parts a run that ended so has run
+    abbrev parts : Result ℕ Code → ℕ
+    parts r = (ran_by r).answers
+
     same_parts : printed_parts style first os ts ss log out (length text) ≡ ran_parts os ts ss log out
+    unfolding run_answer
     same_parts = go way
       where
-        parts : Result ℕ Code → ℕ
-        parts p = cond (is_ok p) (parts_in (length log)) 0
+        printed : Result ℕ Code → ℕ
+        printed p = cond (is_ok p) (parts_in (length log)) 0
 
         go : Way → printed_parts style first os ts ss log out (length text) ≡ ran_parts os ts ss log out
-        go (unsound e f) = ap parts f ∙ sym (ap (λ (x : Ran). x.answers) e)
-        go (small e f) = ap parts f ∙ sym (ap (λ (x : Ran). x.answers) e)
-        go (does m e f) = ap parts f ∙ sym (ap (λ (x : Ran). x.answers) e)
+        go (unsound e f) = ap printed f ∙ sym (ap parts e)
+        go (small e f) = ap printed f ∙ sym (ap parts e)
+        go (does m e f) = ap printed f ∙ sym (ap parts e)
 
-    module _ {r : Ran} {os' ts' ss' out' : List ℕ} (q : Run os ts ss log out r os' ts' ss' out') where
+    module _ {r : Result ℕ Code} {os' ts' ss' out' : List ℕ} (ended : Ends os ts ss log out r os' ts' ss' out') where
+      q : Run os ts ss log out (ran_by r) os' ts' ss' out'
+      q = ended.run
+
       -- the tables and the numbers are the run's
       as_run :
           {p : Result ℕ Code} {after : List ℕ} → p ≡ print_answer style first os ts ss log out (length text) →
@@ -159,33 +166,34 @@ module _ (style : Style) (first : ℕ) (os ts ss log out : List ℕ) where
           }
 
       -- the run was refused
-      pub print_refused :
-          {p : Result ℕ Code} → r.code ≢ 0 → (r.code ≡ 9 → p ≡ Err Value) → (r.code ≡ 11 → p ≡ Err Room) → Printed style first os ts ss log out text p os' ts' ss' out' text
-      print_refused {p} n v m = go way
+      pub print_refused : {e : Code} → r ≡ Err e → Printed style first os ts ss log out text (Err e) os' ts' ss' out' text
+      unfolding run_answer
+      print_refused {e} z = go way
         where
-          go : Way → Printed style first os ts ss log out text p os' ts' ss' out' text
-          go (unsound e f) = as_run (v (ap (λ (x : Ran). x.code) (q.answer ∙ e)) ∙ sym f) (rw (ap (λ (x : Ran). x.answers) e, no_lines))
-          go (small e f) = as_run (m (ap (λ (x : Ran). x.code) (q.answer ∙ e)) ∙ sym f) (rw (ap (λ (x : Ran). x.answers) e, no_lines))
-          go (does m e f) = absurd (n (ap (λ (x : Ran). x.code) (q.answer ∙ e)))
+          go : Way → Printed style first os ts ss log out text (Err e) os' ts' ss' out' text
+          go (unsound d f) = as_run (sym z ∙ ended.answer ∙ d ∙ sym f) (rw (ap parts d, no_lines))
+          go (small d f) = as_run (sym z ∙ ended.answer ∙ d ∙ sym f) (rw (ap parts d, no_lines))
+          go (does m d f) = let y : Err e ≡ Ok (parts_in (length log)) = sym z ∙ ended.answer ∙ d in cc
 
       -- it was done, and its lines were put
       pub print_done :
-          {p : Result ℕ Code} {after : List ℕ} → r.code ≡ 0 → Lines (line_in style first log out') (longest style) out' r.answers text p after →
+          {p : Result ℕ Code} {n : ℕ} {after : List ℕ} → r ≡ Ok n → Lines (line_in style first log out') (longest style) out' n text p after →
           Printed style first os ts ss log out text p os' ts' ss' out' after
-      print_done {p} {after} z l = go way
+      unfolding run_answer
+      print_done {p} {n} {after} z l = go way
         where
           go : Way → Printed style first os ts ss log out text p os' ts' ss' out' after
-          go (unsound e f) = let y : r.code ≡ 9 = ap (λ (x : Ran). x.code) (q.answer ∙ e) in absurd (omega (arith, y, z))
-          go (small e f) = let y : r.code ≡ 11 = ap (λ (x : Ran). x.code) (q.answer ∙ e) in absurd (omega (arith, y, z))
+          go (unsound e f) = let y : Ok n ≡ Err Value = sym z ∙ ended.answer ∙ e in cc
+          go (small e f) = let y : Ok n ≡ Err Room = sym z ∙ ended.answer ∙ e in cc
           go (does m e f) =
-              let n = parts_in (length log) in
+              let all = parts_in (length log) in
               let s = state_of os ts ss in
-              let k : r.answers ≡ n = ap (λ (x : Ran). x.answers) (q.answer ∙ e) in
-              let b : ran_parts os ts ss log out ≡ n = ap (λ (x : Ran). x.answers) e in
-              let o : out' ≡ answers_to s log out n = q.buffer ∙ ap (answers_to s log out) b in
-              let same : cat (line_in style first log out') r.answers ≡ lines_to style first s log n = rw (k, o) (lines_are style first s log out n m) in
-              let room : length out' ≡ length out = ap length o ∙ answers_length s log out n in
-              let d = lines_done (line_in style first log out') (longest style) out' r.answers (omega (arith, k, room)) (rw k h) l in
+              let k : n ≡ all = ap parts (sym z ∙ ended.answer ∙ e) in
+              let b : ran_parts os ts ss log out ≡ all = ap parts e in
+              let o : out' ≡ answers_to s log out all = q.buffer ∙ ap (answers_to s log out) b in
+              let same : cat (line_in style first log out') n ≡ lines_to style first s log all = rw (k, o) (lines_are style first s log out all m) in
+              let room : length out' ≡ length out = ap length o ∙ answers_length s log out all in
+              let d = lines_done (line_in style first log out') (longest style) out' n (omega (arith, k, room)) (rw k h) l in
               as_run (d.0 ∙ ap (λ (l : List ℕ). Ok (length l)) same ∙ sym f) (d.1 ∙ ap (λ (l : List ℕ). laid l text) (same ∙ ap (lines_to style first s log) (sym b)))
 
 -- an accepted log: how many bytes were put

@@ -100,12 +100,8 @@ fn print(
     if !has_room(log.len(), longest_line(style), text.len()) {
         return Err(without_room(objects, threads, slots));
     }
-    let ran = calls::run(objects, threads, slots, log, out);
-    match ran.code {
-        answer::OK => put_text(first, log, out, ran.answers, style, text),
-        answer::VALUE => Err(Code::Value),
-        _ => Err(Code::Room),
-    }
+    let answers = calls::run(objects, threads, slots, log, out)?;
+    put_text(first, log, out, answers, style, text)
 }
 
 fn cut_at(n: usize, last: bool) -> usize
