@@ -1,5 +1,9 @@
 -- Laws of putting bytes into a buffer: a turn of `spell`, and a put that has room or has not.
-use Rattle.std.proofs.Common.{◌≡◌, ℕ, zero, suc, ◌+◌, ◌-◌, ◌/◌, ◌%◌, ◌<◌, ◌≤◌, true, false, leb, List, [], ◌∷◌, ◌++◌, length, set, refl, sym, ap, ◌∙◌, add-zero, add-one, arith, length-append, count_by, nat_le, max}
+use Rattle.std.proofs.Common.{◌≡◌, ℕ, zero, suc, ◌+◌, ◌-◌, ◌/◌, ◌%◌, ◌<◌, ◌≤◌, true, false, leb, List, [], ◌∷◌, ◌++◌, length, set, refl, sym, ap, ◌∙◌, add-zero, add-one, arith, length-append, max, le-ltb, Option}
+use Rattle.std.specs.Prelude.{MatchOption}
+use Rattle.std.specs.Option.{unwrap_or}
+use Rattle.std.specs.List.{AllWithin, HoldsAt}
+use Rattle.std.proofs.lemmas.Iterator.{index_from_first}
 use Rattle.std.proofs.Common.{append_assoc, drop-drop, lt-ltb}
 use Rattle.std.proofs.lemmas.Bool.Decides.{nat_tests}
 use native.Mathlib.Nat.{add-sub_cancel_left}
@@ -7,7 +11,7 @@ use borrow.Rule.Slice.PartMut.{put_mid}
 use Rattle.text.specs.declared.TheConstants.{TENS, SIXTEENS}
 use Rattle.std.proofs.Math.Seq.{set_comm}
 use Rattle.std.proofs.lemmas.List.Edits.{sets, sets-eq}
-use Rattle.text.specs.Text.{places, digits, decimal, hex_digit, hex_places, hex_digits, hex, digits_in, put_at, put_count, Put}
+use Rattle.text.specs.Text.{up_to, places, digits, decimal, hex_digit, hex_places, hex_digits, hex, digits_in, put_at, put_count, Put}
 
 -- the last store can come first: no other one touches its place
 pub sets_last : (xs l : List ℕ) (at d : ℕ) → sets l at (xs ++ (d ∷ [])) ≡ sets (set l (at + length xs) d) at xs
@@ -55,18 +59,25 @@ unfolding digits_in hex_digits
 digits_sixteen zero n = refl
 digits_sixteen (suc k) n = rw (digits_sixteen k (n / 16)) refl
 
-tens : (n : ℕ) → count_by (λ power. nat_le power n) TENS + 1 ≡ places n
-unfolding places
+tens : (n : ℕ) → up_to n TENS + 1 ≡ places n
+unfolding places up_to
 tens n = grind (arith, nat_tests)
 
-sixteens : (n : ℕ) → count_by (λ power. nat_le power n) SIXTEENS + 1 ≡ hex_places n
-unfolding hex_places
+sixteens : (n : ℕ) → up_to n SIXTEENS + 1 ≡ hex_places n
+unfolding hex_places up_to
 sixteens n = grind (arith, nat_tests)
 
-pub in_decimal : (n : ℕ) {k : ℕ} → k ≡ count_by (λ power. nat_le power n) TENS + 1 → digits_in 10 k n ≡ decimal n
+pub in_decimal : (n : ℕ) {k : ℕ} → k ≡ up_to n TENS + 1 → digits_in 10 k n ≡ decimal n
 unfolding decimal
 in_decimal n {k} e = digits_ten k n ∙ ap (λ (j : ℕ). digits j n) (e ∙ tens n)
 
-pub in_hex : (least n : ℕ) {k p : ℕ} → p ≡ count_by (λ power. nat_le power n) SIXTEENS + 1 → k ≡ max least p → digits_in 16 k n ≡ hex least n
+pub in_hex : (least n : ℕ) {k p : ℕ} → p ≡ up_to n SIXTEENS + 1 → k ≡ max least p → digits_in 16 k n ≡ hex least n
 unfolding hex
 in_hex least n {k} {p} e f = digits_sixteen k n ∙ ap (λ (j : ℕ). hex_digits j n) (f ∙ ap (λ (j : ℕ). max least j) (e ∙ sixteens n))
+
+-- where the first power above n stands
+pub first_above : (n : ℕ) (ps : List ℕ) (r : Option ℕ)
+    → MatchOption r (AllWithin (λ p. p ≤ n) ps 0 (length ps)) (λ i. (i < length ps) × HoldsAt (λ p. n < p) ps i × AllWithin (λ p. p ≤ n) ps 0 i)
+    → up_to n ps ≡ unwrap_or r (length ps)
+unfolding up_to
+first_above n ps r m = index_from_first (up_to n) (λ p. n < p) (λ p. p ≤ n) refl (λ p ps h. rw (lt-ltb n p h) refl) (λ p ps h. rw (le-ltb n p h) refl) ps r m

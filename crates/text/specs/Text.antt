@@ -22,6 +22,11 @@ places n =
     cond (ltb n 100000000) 8 (
     cond (ltb n 1000000000) 9 10))))))))
 
+-- how many of a list's first numbers are not above n
+unfoldable pub up_to : ℕ → List ℕ → ℕ
+up_to n [] = 0
+up_to n (p ∷ ps) = cond (ltb n p) 0 (up_to n ps + 1)
+
 -- the last k digits, the greatest place first
 unfoldable pub digits : ℕ → ℕ → List ℕ
 digits zero n = []

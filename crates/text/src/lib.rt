@@ -3,9 +3,9 @@
 // they are; where they have no room nothing is written, and the count is 0. What lies around them stays.
 #![tactic(auto)]
 
-ghost use Rattle.std.specs.Prelude.{◌≡◌, ◌+◌, ◌<◌, ◌≤◌, count_by, leb, length, nat_le};
+ghost use Rattle.std.specs.Prelude.{◌≡◌, ◌+◌, ◌<◌, ◌≤◌, leb, length};
 ghost use Rattle.std.proofs.lemmas.List.Edits.{sets};
-ghost use Rattle.text.specs.Text.{decimal, digits_in, hex_digit, hex, Put};
+ghost use Rattle.text.specs.Text.{up_to, decimal, digits_in, hex_digit, hex, Put};
 
 // The powers of a base that 32 bits hold: a number has a digit more than there are powers up to it.
 const TENS: [u32; 9] = [
@@ -30,10 +30,15 @@ const SIXTEENS: [u32; 7] = [
     0x1000_0000,
 ];
 
+// The first power above a number ends the search: short numbers are found soon.
 fn places(powers: &[u32], n: u32) -> usize
-    ensures { result ≡ count_by (λ power. nat_le power n) powers.now + 1 }
+    ensures { result ≡ up_to n powers.now + 1 }
 {
-    powers.iter().filter(|power| **power <= n).count() + 1
+    powers
+        .iter()
+        .position(|power| n < *power)
+        .unwrap_or(powers.len())
+        + 1
 }
 
 // Whether n bytes have room from a place on; no sum, so that none can wrap.
