@@ -90,10 +90,11 @@ fn fail(errors: Stderr, what: &[u8], why: io::Error) -> Stopped {
 
 // To standard output; where it fails, that was told.
 fn print(streams: Streams, text: &[u8]) -> Result<(), Stopped> {
-    match Print::write_all(&streams.output, text) {
-        Ok(()) => Ok(()),
-        Err(why) => Err(fail(streams.errors, b"standard output", why)),
-    }
+    Print::write_all(&streams.output, text).map_err(|why| fail(
+        streams.errors,
+        b"standard output",
+        why,
+    ))
 }
 
 fn help(streams: Streams) -> Result<(), Stopped> {
@@ -173,10 +174,7 @@ fn with_word(a: Asked, word: &[u8], i: usize) -> Asked {
 fn argument<R: Env>(rt: &R, i: usize, word: &mut [u8]) -> usize
     ensures { IsPrefixLen result word.new }
 {
-    match rt.arg(i, word) {
-        Ok(n) => n,
-        Err(_) => 0,
-    }
+    rt.arg(i, word).unwrap_or(0)
 }
 
 fn is_there<R: Env>(rt: &R, i: usize) -> bool {
@@ -186,12 +184,7 @@ fn is_there<R: Env>(rt: &R, i: usize) -> bool {
 
 // The program's name is the first.
 fn argument_count<R: Env>(rt: &R) -> usize {
-    for i in 0..usize::MAX {
-        if !is_there(rt, i) {
-            return i;
-        }
-    }
-    usize::MAX
+    (0..usize::MAX).take_while(|i| is_there(rt, *i)).count()
 }
 
 fn with_argument<R: Env>(rt: &R, a: Asked, i: usize) -> Asked {
@@ -252,10 +245,9 @@ fn turn(streams: Streams, session: &mut Session) -> Result<bool, Stopped>
     ensures { IsReady session.new }
 {
     let mut input = streams.input;
-    let came = match input.read(&mut session.log[session.have..]) {
-        Ok(came) => came,
-        Err(why) => return Err(fail(streams.errors, b"standard input", why)),
-    };
+    let came = input
+        .read(&mut session.log[session.have..])
+        .map_err(|why| fail(streams.errors, b"standard input", why))?;
     let fed = replaying::feed(
         session.objects,
         session.threads,
@@ -360,10 +352,7 @@ const EILSEQ: i32 = 84;
 fn name_of(path: &[u8]) -> io::Result<&str>
     ensures { IfOk result (λ name. name.now ≡ path.now) }
 {
-    match str::from_utf8(path) {
-        Ok(name) => Ok(name),
-        Err(_) => Err(io::Error::from_raw_os_error(EILSEQ)),
-    }
+    str::from_utf8(path).map_err(|_| io::Error::from_raw_os_error(EILSEQ))
 }
 
 // As much of the file as has room. It is closed behind that, before a call is read: where standard input is closed, the file has its number.

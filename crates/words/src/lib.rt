@@ -7,7 +7,9 @@ ghost use Rattle.std.specs.Prelude.{◌≡◌, ◌+◌, ◌*◌, ◌<◌, ◌≤
 ghost use Rattle.text.specs.Text.{ascii, decimal};
 ghost use Rattle.lines.specs.Pens.{Writes};
 ghost use Rattle.words.specs.Placed.{Placed};
-ghost use Rattle.words.specs.Words.{nth, texts, longest, unknown, rank, operation, answer_name, address, size, told, labelled, unused, named, type as type-spec, role, access, rights, home, mode_number, mode, on_handle, on_thread, on_domain, field_a, other_b, field_b, other_c, field_c, field_d, fields, call_words, value_words, answer_words, widest_operation, widest_field, widest_call, widest_answer};
+ghost use Rattle.words.specs.Words.{nth, texts, longest, unknown, rank, operation, answer_name, address, size, told, labelled, unused, named};
+ghost use Rattle.words.specs.Words.{type as type-spec, role, access, rights, home, mode_number, mode, on_handle, on_thread, on_domain, field_a, other_b, field_b, other_c, field_c, field_d, fields};
+ghost use Rattle.words.specs.Words.{call_words, answer_words, widest_operation, widest_field, widest_call, widest_answer};
 
 use decoding::Call;
 use lines::Pen;
