@@ -1,9 +1,0 @@
-use borrow.Author.Rules.{rules}
-use Rattle.image_write.proofs.write.Reads as write-reads
-use Rattle.firmware.proofs.wardlatch_write.Goals as goal
-
-pub shape_of-out : goal.shape_of-out
-shape_of-out c = c.write-w.auto.out
-
-pub returns : goal.returns
-returns c = c.write-w.ensures
