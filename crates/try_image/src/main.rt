@@ -305,7 +305,10 @@ fn write_again(
 }
 
 fn write_once(objects: &[u64], threads: &[u32], slots: &[u32], bytes: &mut [u8], good: u64) -> u64 {
-    one_more(good, image_write::write(objects, threads, slots, bytes).is_ok())
+    one_more(
+        good,
+        image_write::write(objects, threads, slots, bytes).is_ok(),
+    )
 }
 
 fn one_more(good: u64, done: bool) -> u64 {
