@@ -11,3 +11,8 @@ part_of (Err c) = []
 abbrev pub code_told : {A : Type 0} → Result A Code → ℕ
 code_told (Ok x) = 0
 code_told (Err c) = number_of c
+
+-- what is seen of it: the bytes, or the code
+abbrev pub seen : Result (Bor (List ℕ)) Code → Result (List ℕ) Code
+seen (Ok p) = Ok p.now
+seen (Err c) = Err c
