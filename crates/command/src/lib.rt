@@ -322,10 +322,8 @@ fn replay(streams: Streams, file: &[u8], style: Style) -> Result<(), Stopped> {
     let mut objects = [0u64; 512];
     let mut threads = [0u32; 192];
     let mut slots = [0u32; 384];
-    let mut code = 0u32;
-    image::read(file, &mut objects, &mut threads, &mut slots, &mut code);
-    if code != answer::OK {
-        return refuse(streams, code, style);
+    if let Err(code) = image::read(file, &mut objects, &mut threads, &mut slots) {
+        return refuse(streams, answer::number(code), style);
     }
     match style {
         Style::Numbers => answer_all::<LOG, ANSWERS, LINES>(

@@ -68,10 +68,16 @@ pub fn wardlatch_read(
 ) -> u32
     ensures { ReadsLeft image.now objects.old threads.old slots.old objects.new threads.new slots.new left.new result }
 {
-    let mut found: u32 = 0;
-    let rest = image::read(image, objects, threads, slots, &mut found);
-    *left = rest.len();
-    found
+    match image::read(image, objects, threads, slots) {
+        Ok(rest) => {
+            *left = rest.len();
+            answer::OK
+        }
+        Err(why) => {
+            *left = 0;
+            answer::number(why)
+        }
+    }
 }
 
 // Writes the tables as an image; in `written` its bytes.
@@ -84,9 +90,16 @@ pub fn wardlatch_write(
 ) -> u32
     ensures { Written objects.now threads.now slots.now out.old out.new (record { code = result; value = written.new }) }
 {
-    let w = image_write::write(objects, threads, slots, out);
-    *written = w.value;
-    w.code
+    match image_write::write(objects, threads, slots, out) {
+        Ok(bytes) => {
+            *written = bytes;
+            answer::OK
+        }
+        Err(code) => {
+            *written = 0;
+            answer::number(code)
+        }
+    }
 }
 
 // The domain that 48 words are; VALUE for another number of words.

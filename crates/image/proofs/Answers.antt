@@ -10,7 +10,12 @@ use lib.ListN.{length, take, drop, replicate, length-replicate}
 use borrow.Author.Tests.{ne_eqb, lt-ltb, le-ltb, ltb-false, leb-true, eqb-true}
 use Rattle.answer.specs.Answer.{number_of}
 use Rattle.answer.specs.declared.Answer.{Answer}
-use Rattle.answer.specs.declared.Code.TheVariants.{Ok, Short, Magic, Value}
+use Rattle.answer.specs.declared.Code.{Code}
+use Rattle.answer.specs.declared.Code.TheVariants.{Ok as Fine, Short, Magic, Value}
+use Rattle.std.proofs.Common.{Result, Ok, Err, ap}
+use Rattle.std.specs.Result.{IsErrAnd}
+use denote.Ref.{Bor}
+use Rattle.image.specs.Told.{part_of, code_told}
 use Rattle.domain_rules.proofs.All.{both_true}
 use Rattle.userspace.specs.Userspace.{THREADS}
 use Rattle.tables.specs.Table.{HANDLES, DOMAINS, sized}
@@ -105,7 +110,7 @@ module _ (b : List ℕ) where
       unfolding headed
       cut_off f l = rw (le-ltb (length b) 16 h, e, ← em, ← en, ← ed, ← et, f, lt-ltb (length b) t l) refl
 
-      pub good_head : fields_ok m n d t ≡ true → t ≤ length b → number_of Ok ≡ headed b 0
+      pub good_head : fields_ok m n d t ≡ true → t ≤ length b → number_of Fine ≡ headed b 0
       unfolding headed
       good_head f l = rw (le-ltb (length b) 16 h, e, ← em, ← en, ← ed, ← et, f, le-ltb (length b) t l) refl
 
@@ -134,20 +139,20 @@ module _ (b os ts ss : List ℕ) where
 
       pub right :
           accepted b ≡ true → {os' ts' ss' part : List ℕ} → os' ≡ read_objects b → ts' ≡ read_threads b → ss' ≡ read_slots b → part ≡ drop (total_of b) b →
-          ReadIs b os ts ss os' ts' ss' part (number_of Ok)
+          ReadIs b os ts ss os' ts' ss' part (number_of Fine)
       unfolding read_code image_code
       right n ro rt rs rp =
-          let q : read_code b os ts ss ≡ 0 = rw (z, n) (head_passes b (number_of Ok) e) in
+          let q : read_code b os ts ss ≡ 0 = rw (z, n) (head_passes b (number_of Fine) e) in
           record { answer = sym q; rest = rw q rp; objects = rw q ro; threads = rw q rt; slots = rw q rs }
 
 -- ---- the writer's word on the scratch
 
 module _ {os ts ss before after : List ℕ} {r : Answer} (b : List ℕ) (t : ℕ) (w : Written os ts ss before after r) (n : 5136 ≤ length before) where
-  pub no_image : (r.code ≡ number_of Ok → ⊥) → false ≡ is_image b t os ts ss
+  pub no_image : (r.code ≡ number_of Fine → ⊥) → false ≡ is_image b t os ts ss
   unfolding is_image
   no_image h = rw (not_ok w n h) refl
 
-  pub compared : r.code ≡ number_of Ok → eqs (take r.value after) (take t b) ≡ is_image b t os ts ss
+  pub compared : r.code ≡ number_of Fine → eqs (take r.value after) (take t b) ≡ is_image b t os ts ss
   unfolding is_image
   compared h = rw (ok_bytes w n h, ok w n h) refl
 
@@ -155,5 +160,10 @@ module _ {os ts ss before after : List ℕ} {r : Answer} (b : List ℕ) (t : ℕ
 pub long_enough : 5136 ≤ length {A = ℕ} (replicate 5136 0)
 long_enough = rw length-replicate (le_refl 5136)
 
-pub fits_room : {os ts ss after : List ℕ} {r : Answer} → Written os ts ss (replicate 5136 0) after r → r.code ≡ number_of Ok → length after ≡ 5136 → r.value ≤ length after
+pub fits_room : {os ts ss after : List ℕ} {r : Answer} → Written os ts ss (replicate 5136 0) after r → r.code ≡ number_of Fine → length after ≡ 5136 → r.value ≤ length after
 fits_room {os} {ts} {ss} w h l = rw (ok_long w long_enough h, l) (encode_most os ts ss)
+
+-- a refusal that is passed on by `?`
+pub passed_on : (r : Result (Bor (List ℕ)) Code) (c : Code) → IsErrAnd r (λ e. e ≡ c) → (part_of r ≡ []) × (code_told r ≡ number_of c)
+passed_on (Ok p) c h = absurd h
+passed_on (Err d) c h = (refl, ap number_of h)

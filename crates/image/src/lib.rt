@@ -8,7 +8,10 @@ ghost use Rattle.std.proofs.lemmas.List.Edits.{sets};
 ghost use Rattle.answer.specs.Stores.{cat};
 ghost use Rattle.image_write.specs.Bytes.{le, magic};
 ghost use Rattle.image.specs.Read.{object_in, enter, entered, domain_of, domains_in, eqs, fields_ok, headed, is_image, ReadIs, Fresh, Decoded};
+ghost use Rattle.image.specs.Told.{part_of, code_told};
+ghost use Rattle.image_write.specs.Told.{NamesRefusal};
 
+use answer::Code;
 use image_write::{DOMAIN, HEADER, LEAST, LONGEST, NUMBERS, OBJECT, THREAD};
 use tables::{DOMAINS, HANDLES, OBJECT_NUMBERS, SLOT_NUMBERS, THREAD_NUMBERS, THREADS};
 
@@ -116,26 +119,27 @@ fn fields_ok(m: u64, n: u64, d: u64, t: u64) -> bool
 }
 
 // What the header answers.
-fn head_code(image: &[u8]) -> u32
-    ensures { result ≡ headed image.now 0 }
+fn check_head(image: &[u8]) -> Result<(), Code>
+    ensures head { code_told result ≡ headed image.now 0 }
+    ensures named { NamesRefusal result }
 {
     if image.len() < HEADER {
-        return answer::SHORT;
+        return Err(Code::Short);
     }
     if !is_magic(&image[..8]) {
-        return answer::MAGIC;
+        return Err(Code::Magic);
     }
     let m = get(image, 8, 2);
     let n = get(image, 10, 1);
     let d = get(image, 11, 1);
     let t = get(image, 12, 4);
     if !fields_ok(m, n, d, t) {
-        return answer::VALUE;
+        return Err(Code::Value);
     }
     if image.len() < t as usize {
-        return answer::SHORT;
+        return Err(Code::Short);
     }
-    answer::OK
+    Ok(())
 }
 
 // Reads the tables off an image with a good header, and hands back the place behind it.
@@ -162,45 +166,37 @@ fn is_image(image: &[u8], t: usize, objects: &[u64], threads: &[u32], slots: &[u
     ensures { result ≡ is_image image.now t objects.now threads.now slots.now }
 {
     let mut out = [0u8; LONGEST];
-    let w = image_write::write(objects, threads, slots, &mut out);
-    if w.code != answer::OK {
+    let Ok(length) = image_write::write(objects, threads, slots, &mut out) else {
         return false;
-    }
-    let again = &out[..w.value as usize];
+    };
+    let again = &out[..length as usize];
     let there = &image[..t];
     again == there
 }
 
-// The reader: any bytes, tables of any length. On a refusal an empty part, and every table as it was.
+// The reader: any bytes, tables of any length. A refusal leaves every table as it was.
 pub fn read<'a>(
     image: &'a [u8],
     objects: &mut [u64],
     threads: &mut [u32],
     slots: &mut [u32],
-    answer: &mut u32,
-) -> &'a [u8]
-    ensures { ReadIs image.now objects.old threads.old slots.old objects.new threads.new slots.new result.now answer.new }
+) -> Result<&'a [u8], Code>
+    ensures read { ReadIs image.now objects.old threads.old slots.old objects.new threads.new slots.new (part_of result) (code_told result) }
+    ensures named { NamesRefusal result }
 {
     if !tables::is_sized(objects.len(), threads.len(), slots.len()) {
-        *answer = answer::VALUE;
-        return &image[..0];
+        return Err(Code::Value);
     }
-    let code = head_code(image);
-    if code != answer::OK {
-        *answer = code;
-        return &image[..0];
-    }
+    check_head(image)?;
     let mut o = [0u64; OBJECT_NUMBERS];
     let mut h = [0u32; THREAD_NUMBERS];
     let mut s = [0u32; SLOT_NUMBERS];
     let end = decode(image, &mut o, &mut h, &mut s);
     if !is_image(image, end, &o, &h, &s) {
-        *answer = answer::VALUE;
-        return &image[..0];
+        return Err(Code::Value);
     }
     objects.copy_from_slice(&o);
     threads.copy_from_slice(&h);
     slots.copy_from_slice(&s);
-    *answer = answer::OK;
-    &image[end..]
+    Ok(&image[end..])
 }

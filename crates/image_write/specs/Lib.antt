@@ -1,2 +1,3 @@
 pub mod Bytes
 pub mod Encode
+pub mod Told

@@ -8,8 +8,9 @@ ghost use Rattle.std.proofs.lemmas.List.Edits.{sets};
 ghost use Rattle.answer.specs.Stores.{cat};
 ghost use Rattle.image_write.specs.Bytes.{bytes, magic};
 ghost use Rattle.image_write.specs.Encode.{object_bytes, thread_bytes, domain_bytes, domains_bytes, top, live, header, encode, Written, Roomy};
+ghost use Rattle.image_write.specs.Told.{answer_of, NamesRefusal};
 
-use answer::Answer;
+use answer::Code;
 use tables::{DOMAINS, HANDLES, OBJECT_NUMBERS, SLOT_NUMBERS, SLOTS, THREAD_NUMBERS, THREADS};
 
 // The limits as places, for the passes that count in them.
@@ -168,37 +169,29 @@ fn put_image(
     put_domains(out, b, slots);
 }
 
-fn refused(code: u32) -> Answer
-    ensures { result ≡ record { code = code; value = 0 } }
-{
-    Answer { code, value: 0 }
-}
-
-// The writer: any tables, of any length.
-pub fn write(objects: &[u64], threads: &[u32], slots: &[u32], out: &mut [u8]) -> Answer
-    ensures { Written objects.now threads.now slots.now out.old out.new result }
+// The writer: any tables, of any length; the number of bytes, or why there are none.
+pub fn write(objects: &[u64], threads: &[u32], slots: &[u32], out: &mut [u8]) -> Result<u32, Code>
+    ensures written { Written objects.now threads.now slots.now out.old out.new (answer_of result) }
+    ensures named { NamesRefusal result }
 {
     if !rules::keeps(objects, threads, slots) {
-        return refused(answer::VALUE);
+        return Err(Code::Value);
     }
     let Some(objects) = objects.as_array::<OBJECT_NUMBERS>() else {
-        return refused(answer::VALUE);
+        return Err(Code::Value);
     };
     let Some(threads) = threads.as_array::<THREAD_NUMBERS>() else {
-        return refused(answer::VALUE);
+        return Err(Code::Value);
     };
     let Some(slots) = slots.as_array::<SLOT_NUMBERS>() else {
-        return refused(answer::VALUE);
+        return Err(Code::Value);
     };
     let m = count_objects(objects);
     let n = count_threads(threads);
     let t = LEAST + OBJECT * m + THREAD * n;
     if out.len() < t {
-        return refused(answer::ROOM);
+        return Err(Code::Room);
     }
     put_image(objects, threads, slots, out, m, n);
-    Answer {
-        code: answer::OK,
-        value: t as u32,
-    }
+    Ok(t as u32)
 }

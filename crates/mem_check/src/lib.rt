@@ -72,6 +72,7 @@ fn covered(slots: &[u32], d: u32, from: u32, len: u32, write: bool) -> u32
     ensures { result ≡ covered_run (partitions_at slots.now d) write from len }
 {
     let mut done: u32 = 0;
+    // a turn goes on by as many bytes as its scan has found: no range has these places
     while done < len {
         let n = run_at(slots, d, from + done, write);
         if n == 0 {

@@ -35,6 +35,7 @@ fn read_full(from: &mut impl Read, into: &mut [u8]) -> io::Result<usize>
     ensures { ReadsAtMost result into.new }
 {
     let mut done = 0;
+    // a read gives as many bytes as come: no range has these places
     while done < into.len() {
         let n = from.read(&mut into[done..])?;
         if n == 0 {
@@ -194,14 +195,15 @@ fn read(
     let x = short_of(objects.len(), b == 1);
     let y = short_of(threads.len(), b == 2);
     let z = short_of(slots.len(), b == 3);
-    let mut code: u32 = 99;
-    let rest = image::read(
+    let (code, rest) = match image::read(
         &bytes[..n],
         &mut objects[..x],
         &mut threads[..y],
         &mut slots[..z],
-        &mut code,
-    );
+    ) {
+        Ok(rest) => (answer::OK, rest),
+        Err(code) => (answer::number(code), &bytes[..0]),
+    };
     report(rt, code, rest, objects, threads, slots)
 }
 
@@ -244,9 +246,12 @@ fn write(
     if end > bytes.len() {
         return Ok(());
     }
-    let r = image_write::write(objects, threads, slots, &mut bytes[HALF..end]);
-    figure(rt, u64::from(r.code))?;
-    figure(rt, u64::from(r.value))?;
+    let (code, length) = match image_write::write(objects, threads, slots, &mut bytes[HALF..end]) {
+        Ok(length) => (answer::OK, length),
+        Err(code) => (answer::number(code), 0),
+    };
+    figure(rt, u64::from(code))?;
+    figure(rt, u64::from(length))?;
     figure(rt, digest(bytes))?;
     word(rt, "\n")
 }
@@ -278,9 +283,7 @@ fn read_once(
     bytes: &[u8],
     good: u64,
 ) -> u64 {
-    let mut code: u32 = 99;
-    let rest = image::read(bytes, objects, threads, slots, &mut code);
-    one_more(good, code)
+    one_more(good, image::read(bytes, objects, threads, slots).is_ok())
 }
 
 fn write_again(
@@ -303,12 +306,14 @@ fn write_again(
 }
 
 fn write_once(objects: &[u64], threads: &[u32], slots: &[u32], bytes: &mut [u8], good: u64) -> u64 {
-    let r = image_write::write(objects, threads, slots, bytes);
-    one_more(good, r.code)
+    one_more(
+        good,
+        image_write::write(objects, threads, slots, bytes).is_ok(),
+    )
 }
 
-fn one_more(good: u64, code: u32) -> u64 {
-    if code == answer::OK && good < 4294967295 {
+fn one_more(good: u64, done: bool) -> u64 {
+    if done && good < 4294967295 {
         return good + 1;
     }
     good

@@ -25,6 +25,7 @@ fn read_full(from: &mut impl Read, into: &mut [u8]) -> io::Result<usize>
     ensures { ReadsAtMost result into.new }
 {
     let mut done = 0;
+    // a read gives as many bytes as come: no range has these places
     while done < into.len() {
         let n = from.read(&mut into[done..])?;
         if n == 0 {
