@@ -51,9 +51,9 @@ pub fn wardlatch_run(
             *answers = count;
             answer::OK
         }
-        Err(code) => {
+        Err(fault) => {
             *answers = 0;
-            answer::number(code)
+            answer::number(fault)
         }
     }
 }
@@ -90,16 +90,9 @@ pub fn wardlatch_write(
 ) -> u32
     ensures { Written objects.now threads.now slots.now out.old out.new (record { code = result; value = written.new }) }
 {
-    match image_write::write(objects, threads, slots, out) {
-        Ok(bytes) => {
-            *written = bytes;
-            answer::OK
-        }
-        Err(code) => {
-            *written = 0;
-            answer::number(code)
-        }
-    }
+    let wrote = Answer::from(image_write::write(objects, threads, slots, out));
+    *written = wrote.value;
+    wrote.code
 }
 
 // The domain that 48 words are; VALUE for another number of words.

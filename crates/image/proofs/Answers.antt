@@ -8,14 +8,14 @@ use mathlib.Core.List.{List, []}
 use lib.Dec.{eqb, leb, ltb}
 use lib.ListN.{length, take, drop, replicate, length-replicate}
 use borrow.Author.Tests.{ne_eqb, lt-ltb, le-ltb, ltb-false, leb-true, eqb-true}
-use Rattle.answer.specs.Answer.{number_of}
+use Rattle.answer.specs.Answer.{number_of, code_in}
 use Rattle.answer.specs.declared.Answer.{Answer}
 use Rattle.answer.specs.declared.Code.{Code}
 use Rattle.answer.specs.declared.Code.TheVariants.{Ok as Fine, Short, Magic, Value}
 use Rattle.std.proofs.Common.{Result, Ok, Err, ap}
 use Rattle.std.specs.Result.{IsErrAnd}
 use denote.Ref.{Bor}
-use Rattle.image.specs.Told.{part_of, code_told}
+use Rattle.image.specs.Told.{part_of}
 use Rattle.domain_rules.proofs.All.{both_true}
 use Rattle.userspace.specs.Userspace.{THREADS}
 use Rattle.tables.specs.Table.{HANDLES, DOMAINS, sized}
@@ -164,6 +164,6 @@ pub fits_room : {os ts ss after : List ℕ} {r : Answer} → Written os ts ss (r
 fits_room {os} {ts} {ss} w h l = rw (ok_long w long_enough h, l) (encode_most os ts ss)
 
 -- a refusal that is passed on by `?`
-pub passed_on : (r : Result (Bor (List ℕ)) Code) (c : Code) → IsErrAnd r (λ e. e ≡ c) → (part_of r ≡ []) × (code_told r ≡ number_of c)
+pub passed_on : (r : Result (Bor (List ℕ)) Code) (c : Code) → IsErrAnd r (λ e. e ≡ c) → (part_of r ≡ []) × (code_in r ≡ number_of c)
 passed_on (Ok p) c h = absurd h
 passed_on (Err d) c h = (refl, ap number_of h)

@@ -1,13 +1,14 @@
 -- Two results that meet the reader's contract show the same, the code or the bytes that are handed back, and the three tables are equal.
+use Rattle.answer.specs.Answer.{code_in}
 use Rattle.std.proofs.Common.{ℕ, ◌≡◌, List, Result, Ok, Err, sym, ap, ◌∙◌}
 use denote.Ref.{Bor}
 use Rattle.answer.specs.declared.Code.{Code}
 use Rattle.image_write.specs.Told.{NamesRefusal}
 use Rattle.image_write.proofs.Told.{one_code}
-use Rattle.image.specs.Told.{part_of, code_told, seen}
+use Rattle.image.specs.Told.{part_of, seen}
 use Rattle.image.proofs.read.Reads as read
 
-same : (r₁ r₂ : Result (Bor (List ℕ)) Code) → NamesRefusal r₁ → NamesRefusal r₂ → code_told r₁ ≡ code_told r₂ → part_of r₁ ≡ part_of r₂ → seen r₁ ≡ seen r₂
+same : (r₁ r₂ : Result (Bor (List ℕ)) Code) → NamesRefusal r₁ → NamesRefusal r₂ → code_in r₁ ≡ code_in r₂ → part_of r₁ ≡ part_of r₂ → seen r₁ ≡ seen r₂
 same (Ok p) (Ok q) m n e f = ap Ok f
 same (Ok p) (Err d) m n e f = absurd (n (sym e))
 same (Err c) (Ok q) m n e f = absurd (m e)

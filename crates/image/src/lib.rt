@@ -3,12 +3,13 @@
 // accepted exactly when it is what the writer writes of a state that keeps the rules, and a refusal changes nothing.
 #![tactic(auto)]
 
+ghost use Rattle.answer.specs.Answer.{code_in};
 ghost use Rattle.std.specs.Prelude.{◌≡◌, ◌+◌, ◌*◌, ◌≤◌, ◌<◌, ◌^◌, length};
 ghost use Rattle.std.proofs.lemmas.List.Edits.{sets};
 ghost use Rattle.answer.specs.Stores.{cat};
 ghost use Rattle.image_write.specs.Bytes.{le, magic};
 ghost use Rattle.image.specs.Read.{object_in, enter, entered, domain_of, domains_in, eqs, fields_ok, headed, is_image, ReadIs, Fresh, Decoded};
-ghost use Rattle.image.specs.Told.{part_of, code_told};
+ghost use Rattle.image.specs.Told.{part_of};
 ghost use Rattle.image_write.specs.Told.{NamesRefusal};
 
 use answer::Code;
@@ -120,7 +121,7 @@ fn fields_ok(m: u64, n: u64, d: u64, t: u64) -> bool
 
 // What the header answers.
 fn check_head(image: &[u8]) -> Result<(), Code>
-    ensures head { code_told result ≡ headed image.now 0 }
+    ensures head { code_in result ≡ headed image.now 0 }
     ensures named { NamesRefusal result }
 {
     if image.len() < HEADER {
@@ -181,7 +182,7 @@ pub fn read<'a>(
     threads: &mut [u32],
     slots: &mut [u32],
 ) -> Result<&'a [u8], Code>
-    ensures read { ReadIs image.now objects.old threads.old slots.old objects.new threads.new slots.new (part_of result) (code_told result) }
+    ensures read { ReadIs image.now objects.old threads.old slots.old objects.new threads.new slots.new (part_of result) (code_in result) }
     ensures named { NamesRefusal result }
 {
     if !tables::is_sized(objects.len(), threads.len(), slots.len()) {

@@ -2,8 +2,8 @@
 use Rattle.std.proofs.Common.{ℕ, ◌≡◌, cond, eqb, Result, Ok, Err, refl, sym, ap, ◌∙◌}
 use Rattle.answer.specs.declared.Code.{Code}
 use Rattle.answer.specs.declared.Code.TheVariants.{Ok as Fine, Einval, Eperm, Ebadf, Eaddrinuse, Enospc, Enoent, Short, Magic, Value, Noplan, Room, Differs}
-use Rattle.answer.specs.Answer.{number_of}
-use Rattle.image_write.specs.Told.{answer_of, NamesRefusal}
+use Rattle.answer.specs.Answer.{number_of, told}
+use Rattle.image_write.specs.Told.{NamesRefusal}
 
 abbrev named : ℕ → Code
 named n =
@@ -39,7 +39,7 @@ named_number Differs = refl
 pub one_code : (c d : Code) → number_of c ≡ number_of d → c ≡ d
 one_code c d e = sym (named_number c) ∙ ap named e ∙ named_number d
 
-pub one_result : (r₁ r₂ : Result ℕ Code) → NamesRefusal r₁ → NamesRefusal r₂ → answer_of r₁ ≡ answer_of r₂ → r₁ ≡ r₂
+pub one_result : (r₁ r₂ : Result ℕ Code) → NamesRefusal r₁ → NamesRefusal r₂ → told r₁ ≡ told r₂ → r₁ ≡ r₂
 one_result (Ok m) (Ok n) p q e = ap Ok (ap (λ a. a.value) e)
 one_result (Ok m) (Err d) p q e = absurd (q (sym (ap (λ a. a.code) e)))
 one_result (Err c) (Ok n) p q e = absurd (p (ap (λ a. a.code) e))

@@ -3,12 +3,13 @@
 // Promised of `write`: VALUE for tables that break a rule, then ROOM, else the image and its length; what lies behind it stays.
 #![tactic(auto)]
 
+ghost use Rattle.answer.specs.Answer.{told};
 ghost use Rattle.std.specs.Prelude.{◌≡◌, ◌++◌, ◌+◌, ◌*◌, ◌<◌, ◌≤◌, length};
 ghost use Rattle.std.proofs.lemmas.List.Edits.{sets};
 ghost use Rattle.answer.specs.Stores.{cat};
 ghost use Rattle.image_write.specs.Bytes.{bytes, magic};
 ghost use Rattle.image_write.specs.Encode.{object_bytes, thread_bytes, domain_bytes, domains_bytes, top, live, header, encode, Written, Roomy};
-ghost use Rattle.image_write.specs.Told.{answer_of, NamesRefusal};
+ghost use Rattle.image_write.specs.Told.{NamesRefusal};
 
 use answer::Code;
 use tables::{DOMAINS, HANDLES, OBJECT_NUMBERS, SLOT_NUMBERS, SLOTS, THREAD_NUMBERS, THREADS};
@@ -171,7 +172,7 @@ fn put_image(
 
 // The writer: any tables, of any length; the number of bytes, or why there are none.
 pub fn write(objects: &[u64], threads: &[u32], slots: &[u32], out: &mut [u8]) -> Result<u32, Code>
-    ensures written { Written objects.now threads.now slots.now out.old out.new (answer_of result) }
+    ensures written { Written objects.now threads.now slots.now out.old out.new (told result) }
     ensures named { NamesRefusal result }
 {
     if !rules::keeps(objects, threads, slots) {

@@ -2,7 +2,7 @@
 // translation answers: code and upstream's value. The stored output is that table written by hand, with error.rs beside it.
 #![tactic(auto)]
 
-use answer::Named;
+use answer::Answer;
 use std::io;
 
 fn main(rt: HostRuntime) -> io::Result<()> {
@@ -14,13 +14,13 @@ fn main(rt: HostRuntime) -> io::Result<()> {
 
 fn line(rt: &impl Print, n: u32) -> io::Result<()> {
     let errno = answer::to_errno(n);
-    let code = errno.code;
-    let value = errno.value;
+    let code = Answer::from(errno.map(|_| ())).code;
+    let value = errno.unwrap_or(0);
     match answer::code_of(n) {
-        Named::Is(name) => {
+        Some(name) => {
             let again = answer::number(name);
             println!(rt; "{n} {again} {code} {value}")
         }
-        Named::Nothing => println!(rt; "{n} - {code} {value}"),
+        None => println!(rt; "{n} - {code} {value}"),
     }
 }
