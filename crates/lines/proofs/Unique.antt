@@ -25,6 +25,6 @@ put_lines_unique κs a r₁ r₂ s₁ s₂ p q = (p.answer ∙ sym q.answer, p.t
 
 -- the same of every form
 pub put_lines_as_unique :
-    (T : _) (L : _) (F : _) (D : _) (κs : _) (a : _) (r₁ r₂ : Result ℕ Code) (s₁ s₂ : _) →
+    (T L F D : _) (κs : _) (a : _) (r₁ r₂ : Result ℕ Code) (s₁ s₂ : _) →
     lines-as.Post T L F D κs a r₁ s₁ → lines-as.Post T L F D κs a r₂ s₂ → (r₁ ≡ r₂) × (s₁.1.1.1.0.now ≡ s₂.1.1.1.0.now)
 put_lines_as_unique T L F D κs a r₁ r₂ s₁ s₂ p q = (p.answer ∙ sym q.answer, p.text ∙ sym q.text)
