@@ -7,12 +7,9 @@ use Rattle.text.specs.Text.{places, digits, decimal, put_count, Put}
 use Rattle.lines.specs.declared.Pen.{Pen}
 use Rattle.lines.specs.Lines.{line}
 use Rattle.lines.specs.Steps.{piece}
-use Rattle.lines.specs.Pens.{put_by, Writes}
+use Rattle.lines.specs.Pens.{Writes}
 
 module _ (pen : Pen) (xs after : List ℕ) {r : ℕ} (p : Put pen.text.now pen.at xs r after) where
-  pub put_exact : record { text = record pen.text { now = after }; at = pen.at + r } ≡ put_by pen xs
-  put_exact = rw (p.count, p.text) refl
-
   pub put_in_room : (most : ℕ) → length xs ≤ most → length after ≡ length pen.text.now → Writes pen (record { text = record pen.text { now = after }; at = pen.at + r }) most xs
   put_in_room most m e = record { same = refl; kept = e; piece = λ room. piece _ _ _ _ _ _ m room p }
 

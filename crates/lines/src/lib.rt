@@ -45,7 +45,7 @@ impl<'a> Pen<'a> {
     }
 }
 
-// A form of lines: how many bytes the longest has, and what the k-th line says of an answer and its value.
+// A form of lines: how many bytes the longest has, and what the k-th line says of an answer and its value, two numbers as the lent run of answers has them.
 pub trait Form {
     ghost longest: { ℕ };
 

@@ -125,6 +125,7 @@ fn keep(log: &mut [u8], from: usize, n: usize)
 }
 
 // `have` bytes were kept, and `more` came behind them, as far as the buffer goes: none at the input's end.
+// The tables and buffers are ten parameters and no struct: `FedIs` promises what each of them holds, and callers lend them one by one.
 pub fn feed(
     objects: &mut [u64],
     threads: &mut [u32],

@@ -60,7 +60,7 @@ fn digit(d: u32) -> u8
     55 + d as u8
 }
 
-// The last k digits of n, from the last place to the first.
+// The last k digits of n, from the last place to the first. A buffer and a place, no pen: what the public functions promise (`Put`) names both.
 fn spell<const BASE: u32>(text: &mut [u8], at: usize, k: usize, n: u32)
     requires base { (1 < BASE) × (BASE ≤ 16) }
     requires room { at + k ≤ length text.old }
@@ -84,6 +84,7 @@ fn put_digits<const BASE: u32>(text: &mut [u8], at: usize, k: usize, n: u32) -> 
     k
 }
 
+// A count, and 0 where there is no room: no `Option`, since `Put` is promised of every place.
 pub fn put_number(text: &mut [u8], at: usize, n: u32) -> usize
     ensures { Put text.old at (decimal n) result text.new }
 {

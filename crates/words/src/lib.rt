@@ -361,6 +361,7 @@ fn spell_call(pen: &mut Pen, c: Call)
     put_fields(pen, c)
 }
 
+// A place, the old one where there is no room, and no `Option`: `Placed` promises it.
 pub fn put_call(text: &mut [u8], at: usize, c: Call) -> usize
     ensures { Placed widest_call text.old at (call_words c) result text.new }
 {

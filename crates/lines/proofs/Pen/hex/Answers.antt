@@ -1,10 +1,10 @@
 use Rattle.std.proofs.Common.{arith}
 use Rattle.text.specs.Laws.{hex_length, hex_places_most}
-use Rattle.lines.proofs.Laws.{put_exact, put_in_room, put_within}
+use Rattle.lines.proofs.Laws.{put_in_room, put_within}
 use Rattle.lines.proofs.Pen.hex.Goals as goal
 
 pub overflow_add-self : goal.overflow_add-self
 overflow_add-self c = omega (arith, put_within _ _ _ _ _ c.put_hex.ensures)
 
-pub returns : goal.returns
-returns c = record { exact = put_exact _ _ _ c.put_hex.ensures; with_room = put_in_room _ _ _ c.put_hex.ensures _ (omega (arith, hex_length c.args.least c.args.n, hex_places_most c.args.n)) c.put_hex.auto.text }
+pub returns-clause-with_room : goal.returns-clause-with_room
+returns-clause-with_room c = put_in_room _ _ _ c.put_hex.ensures _ (omega (arith, hex_length c.args.least c.args.n, hex_places_most c.args.n)) c.put_hex.auto.text
