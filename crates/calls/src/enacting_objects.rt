@@ -115,6 +115,7 @@ fn grant_object(objects: &mut [u64], h: u32, t: u32)
     object_table::store_object(objects, h, o);
 }
 
+#[inline(never)]
 fn change_object(objects: &mut [u64], h: u32, operation: Operation, c: Call)
     ensures { objects.new ≡ put_object objects.old h (object_after (named operation) c (object_at objects.old h)) }
 {
@@ -123,6 +124,7 @@ fn change_object(objects: &mut [u64], h: u32, operation: Operation, c: Call)
     object_table::store_object(objects, h, o);
 }
 
+#[inline(never)]
 fn change_each(objects: &mut [u64], operation: Operation, c: Call)
     ensures { objects.new ≡ each_to object_at put_object (object_after (named operation) c) objects.old HANDLES·spec }
 {
