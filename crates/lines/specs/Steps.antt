@@ -1,7 +1,7 @@
 -- What functions inside promise of bytes that they put at a place: the place behind them, the buffer, and how many bytes they are at most;
 -- with the laws by which pieces follow one another.
 use Prim.Native.Nat.{ℕ, ◌+◌, ◌*◌, ◌/◌, ◌≤◌, ◌<◌}
-use Rattle.std.proofs.Common.{zero-add, sym, subst, ◌∙◌, length-append}
+use Rattle.std.proofs.Common.{zero-add, add-one, suc, sym, subst, ◌∙◌, length-append}
 use native.Mathlib.Omega.{arith}
 use Rattle.std.specs.Prelude.{◌≡◌, List, ◌++◌, Ok, Err}
 use Rattle.answer.specs.declared.Code.TheVariants.{Einval, Room}
@@ -10,8 +10,8 @@ use Rattle.std.proofs.Math.ListN.{length}
 use Rattle.std.proofs.lemmas.List.Edits.{sets}
 use borrow.Author.Tests.{lt-ltb, le-ltb}
 use Rattle.answer.specs.Stores.{cat, behind, sets_front}
-use Rattle.text.specs.Text.{Put}
-use Rattle.text.specs.Laws.{put_count_lem, put_text}
+use Rattle.text.specs.Text.{decimal, Put}
+use Rattle.text.specs.Laws.{decimal_most, put_count_lem, put_text}
 use Rattle.lines.specs.Lines.{lines_answer, text_after, Lines}
 
 pub record Piece (before : List ℕ) (at most : ℕ) (xs : List ℕ) (r : ℕ) (after : List ℕ) : Type 0 where
@@ -26,6 +26,9 @@ pub piece : (t xs t' : List ℕ) (at most r : ℕ) → length xs ≤ most → at
 piece t xs t' at most r m room p =
     let h : at + length xs ≤ length t = omega (arith, m) in
     record { next = rw (put_count_lem t at xs r t' p h) refl; text = put_text t at xs r t' p h; bound = m }
+
+pub number_piece : (t t' : List ℕ) (at n r : ℕ) → at + 10 ≤ length t → Put t at (decimal n) r t' → Piece t at 10 (decimal n) (at + r) t'
+number_piece t t' at n r room p = piece t (decimal n) t' at 10 r (decimal_most n) room p
 
 -- one behind the other
 infixl 20 ◌then◌
@@ -43,6 +46,17 @@ known_as {t} {t'} {xs} {ys} {at} {m} {r} e p = subst (λ (l : List ℕ). Piece t
 
 pub loosely : {t t' xs : List ℕ} {at m r : ℕ} (m' : ℕ) → m ≤ m' → Piece t at m xs r t' → Piece t at m' xs r t'
 loosely m' h p = record { next = p.next; text = p.text; bound = omega (arith, p.bound) }
+
+-- ---- lines, one piece each
+
+module _ (f : ℕ → List ℕ) (most : ℕ) where
+  pub none_put : (t : List ℕ) → Piece t 0 (most * 0) (cat f 0) 0 t
+  unfolding cat
+  none_put t = record { next = refl; text = refl; bound = omega arith }
+
+  pub one_more : {t₀ t t' : List ℕ} {k at r : ℕ} → Piece t₀ 0 (most * k) (cat f k) at t → Piece t at most (f k) r t' → Piece t₀ 0 (most * (k + 1)) (cat f (k + 1)) r t'
+  unfolding cat
+  one_more {k = k} p q = rw (add-one k) (loosely (most * suc k) (omega arith) (p then q))
 
 -- ---- the three answers
 
