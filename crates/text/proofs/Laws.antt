@@ -1,10 +1,8 @@
 -- Laws of putting bytes into a buffer: a turn of `spell`, and a put that has room or has not.
-use Rattle.std.proofs.Common.{◌≡◌, ℕ, zero, suc, ◌+◌, ◌-◌, ◌/◌, ◌%◌, ◌<◌, ◌≤◌, true, false, leb, List, [], ◌∷◌, ◌++◌, length, set, refl, sym, ap, ◌∙◌, add-zero, add-one, arith, length-append, count_by, nat_le, max}
+use Rattle.std.proofs.Common.{◌≡◌, ℕ, zero, suc, ◌+◌, ◌-◌, ◌/◌, ◌%◌, ◌<◌, ◌≤◌, true, false, leb, List, [], ◌∷◌, ◌++◌, length, set, refl, sym, ap, ◌∙◌, add-zero, add-one, arith, length-append, max}
 use Rattle.std.proofs.Common.{append_assoc, drop-drop, lt-ltb}
-use Rattle.std.proofs.lemmas.Bool.Decides.{nat_tests}
 use native.Mathlib.Nat.{add-sub_cancel_left}
 use borrow.Rule.Slice.PartMut.{put_mid}
-use Rattle.text.specs.declared.TheConstants.{TENS, SIXTEENS}
 use Rattle.std.proofs.Math.Seq.{set_comm}
 use Rattle.std.proofs.lemmas.List.Edits.{sets, sets-eq}
 use Rattle.text.specs.Text.{places, digits, decimal, hex_digit, hex_places, hex_digits, hex, digits_in, put_at, put_count, Put}
@@ -55,18 +53,10 @@ unfolding digits_in hex_digits
 digits_sixteen zero n = refl
 digits_sixteen (suc k) n = rw (digits_sixteen k (n / 16)) refl
 
-tens : (n : ℕ) → count_by (λ power. nat_le power n) TENS + 1 ≡ places n
-unfolding places
-tens n = grind (arith, nat_tests)
-
-sixteens : (n : ℕ) → count_by (λ power. nat_le power n) SIXTEENS + 1 ≡ hex_places n
-unfolding hex_places
-sixteens n = grind (arith, nat_tests)
-
-pub in_decimal : (n : ℕ) {k : ℕ} → k ≡ count_by (λ power. nat_le power n) TENS + 1 → digits_in 10 k n ≡ decimal n
+pub in_decimal : (n : ℕ) {k : ℕ} → k ≡ places n → digits_in 10 k n ≡ decimal n
 unfolding decimal
-in_decimal n {k} e = digits_ten k n ∙ ap (λ (j : ℕ). digits j n) (e ∙ tens n)
+in_decimal n {k} e = digits_ten k n ∙ ap (λ (j : ℕ). digits j n) e
 
-pub in_hex : (least n : ℕ) {k p : ℕ} → p ≡ count_by (λ power. nat_le power n) SIXTEENS + 1 → k ≡ max least p → digits_in 16 k n ≡ hex least n
+pub in_hex : (least n : ℕ) {k p : ℕ} → p ≡ hex_places n → k ≡ max least p → digits_in 16 k n ≡ hex least n
 unfolding hex
-in_hex least n {k} {p} e f = digits_sixteen k n ∙ ap (λ (j : ℕ). hex_digits j n) (f ∙ ap (λ (j : ℕ). max least j) (e ∙ sixteens n))
+in_hex least n {k} {p} e f = digits_sixteen k n ∙ ap (λ (j : ℕ). hex_digits j n) (f ∙ ap (λ (j : ℕ). max least j) e)
