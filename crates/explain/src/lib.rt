@@ -73,6 +73,19 @@ struct Explained<'a> {
     log: &'a [u8],
 }
 
+impl<'a> Explained<'a> {
+    fn put(&self, pen: &mut Pen, k: usize, code: u32, value: u32)
+        requires { 16 * k < 2 ^ 64 }
+        ensures { Writes pen.old pen.new longest_line (explained (number_at self.now.first k) (part_at self.now.log.now k) code value) }
+    {
+        let part = part_of(self.log, k);
+        pen.number(line_number(self.first, k));
+        pen.word(b": ");
+        put_part(pen, part);
+        pen.at = words::put_answer(pen.text, pen.at, is_address(part, code), code, value);
+    }
+}
+
 impl Form for Explained<'_> {
     ghost longest = { longest_line };
 
@@ -88,11 +101,7 @@ impl Form for Explained<'_> {
         requires { Room pen.old longest_line × (longest_line * k ≤ length pen.old.text.now) }
         ensures { Wrote pen.old pen.new longest_line (explained (number_at self.now.first k) (part_at self.now.log.now k) code value) }
     {
-        let part = part_of(self.log, k);
-        pen.number(line_number(self.first, k));
-        pen.word(b": ");
-        put_part(pen, part);
-        pen.at = words::put_answer(pen.text, pen.at, is_address(part, code), code, value);
+        self.put(pen, k, code, value)
     }
 
     ghost some_bytes = { lit< tt };

@@ -74,6 +74,19 @@ fn put_short(pen: &mut Pen, code: u32)
     pen.at = end;
 }
 
+fn put_numbers(pen: &mut Pen, code: u32, value: u32)
+    requires { Room pen.old 22 }
+    ensures { Wrote pen.old pen.new 22 (line code value) }
+{
+    if value == 0 && code < 10 {
+        return put_short(pen, code);
+    }
+    pen.number(code);
+    pen.word(b" ");
+    pen.number(value);
+    pen.word(b"\n")
+}
+
 // The answer and its value in decimal.
 struct Numbers;
 
@@ -87,13 +100,7 @@ impl Form for Numbers {
     }
 
     fn put_line(&self, pen: &mut Pen, _k: usize, code: u32, value: u32) {
-        if value == 0 && code < 10 {
-            return put_short(pen, code);
-        }
-        pen.number(code);
-        pen.word(b" ");
-        pen.number(value);
-        pen.word(b"\n")
+        put_numbers(pen, code, value)
     }
 
     ghost some_bytes = { lit< tt };

@@ -33,10 +33,6 @@ lines_done line_of most out n {text} g h l =
 
 -- ---- what a test says of the room
 
-pub longest_some : (style : Style) → 0 < longest style
-longest_some Numbers = omega arith
-longest_some Words = omega arith
-
 module _ (style : Style) (log text : List ℕ) {r : Bool} {each : ℕ} (e : r ≡ leb (each * parts_in (length log)) (length text)) (l : each ≡ longest style) where
   pub has_no_room : r ≡ false → length text < longest style * parts_in (length log)
   has_no_room n = leb-false _ _ (rw l at (sym e ∙ n))
@@ -45,10 +41,6 @@ module _ (style : Style) (log text : List ℕ) {r : Bool} {each : ℕ} (e : r �
   has_its_room n = leb-true _ _ (rw l at (sym e ∙ n))
 
 -- ---- lines of either kind
-
-pub lines_as : {a b : Style} (first : ℕ) (log out : List ℕ) (n : ℕ) {before after : List ℕ} {r : Result ℕ Code} → a ≡ b
-    → Lines (line_in b first log out) (longest b) out n before r after → Lines (line_in a first log out) (longest a) out n before r after
-lines_as first log out n {before} {after} {r} e l = subst (λ (w : Style). Lines (line_in w first log out) (longest w) out n before r after) (sym e) l
 
 pub refusal_as : {a b : Style} (code : ℕ) {before after : List ℕ} {r : Result ℕ Code} → a ≡ b
     → Lines (λ _. refusal_of b code) 30 (code ∷ 0 ∷ []) 1 before r after → Lines (λ _. refusal_of a code) 30 (code ∷ 0 ∷ []) 1 before r after

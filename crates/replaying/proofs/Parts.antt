@@ -1,8 +1,7 @@
 -- What the functions here cite of numbers and of parts of a buffer.
-use Rattle.std.proofs.Common.{◌≡◌, ℕ, ◌+◌, ◌*◌, ◌/◌, ◌%◌, ◌<◌, ◌≤◌, min, leb, List, ◌++◌, length, get_or, take, drop, set, sym, ap, ◌∙◌, mul_comm, add_comm, le-div_iff_mul-le, zero-add, add-one, arith, length-drop, take-append-drop, length-take, length-take-le, get_or-drop, take_all, get_or-append-add, take-add, drop_at, eq-eqb, ne_eqb, le-leb}
+use Rattle.std.proofs.Common.{◌≡◌, ℕ, ◌+◌, ◌*◌, ◌/◌, ◌%◌, ◌<◌, ◌≤◌, min, List, ◌++◌, length, get_or, take, drop, set, sym, ap, ◌∙◌, add_comm, zero-add, add-one, arith, length-drop, take-append-drop, length-take, length-take-le, get_or-drop, take_all, get_or-append-add, take-add, drop_at, eq-eqb, ne_eqb}
 use native.Mathlib.Decide.{dec_le, ℕ_discrete}
 use lib.Seq.{paste, paste-suc}
-use borrow.Author.Tests.{lt-leb}
 use Rattle.calls.specs.Calls.{parts_in}
 use Rattle.replaying.specs.Printing.{laid}
 
@@ -21,24 +20,6 @@ parts_behind m n = parts_are (16 * m + n) ∙ omega (arith, parts_are n)
 
 pub parts_whole : (m : ℕ) → parts_in (16 * m) ≡ m
 parts_whole m = parts_are (16 * m) ∙ omega arith
-
--- ---- room for each part
-
-div_room : (a each room : ℕ) → 0 < each → leb a (room / each) ≡ leb (each * a) room
-div_room a each room h = rw mul_comm (go (dec_le a (room / each)))
-  where
-    go : Dec (a ≤ room / each) → leb a (room / each) ≡ leb (a * each) room
-    go (yes l) = le-leb _ _ l ∙ sym (le-leb _ _ ((le-div_iff_mul-le h).0 l))
-    go (no n) = lt-leb a (room / each) (omega arith) ∙ sym (lt-leb (a * each) room (more (dec_le (a * each) room)))
-      where
-        more : Dec (a * each ≤ room) → room < a * each
-        more (yes m) = absurd (n ((le-div_iff_mul-le h).1 m))
-        more (no m) = omega arith
-
-pub room_is : (n each room : ℕ) → 0 < each → leb (n / 16 + min 1 (n % 16)) (room / each) ≡ leb (each * parts_in n) room
-room_is n each room h =
-    let e : n / 16 + min 1 (n % 16) ≡ parts_in n = omega (arith, parts_are n) in
-    rw e (div_room (parts_in n) each room h)
 
 -- ---- bytes moved to the front, one by one
 

@@ -5,10 +5,8 @@ use Rattle.std.specs.Option.{unwrap_or}
 use Rattle.std.specs.List.{AllWithin, HoldsAt}
 use Rattle.std.proofs.lemmas.Iterator.{index_from_first}
 use Rattle.std.proofs.Common.{append_assoc, drop-drop, lt-ltb}
-use Rattle.std.proofs.lemmas.Bool.Decides.{nat_tests}
 use native.Mathlib.Nat.{add-sub_cancel_left}
 use borrow.Rule.Slice.PartMut.{put_mid}
-use Rattle.text.specs.declared.TheConstants.{TENS, SIXTEENS}
 use Rattle.std.proofs.Math.Seq.{set_comm}
 use Rattle.std.proofs.lemmas.List.Edits.{sets, sets-eq}
 use Rattle.text.specs.Text.{up_to, places, digits, decimal, hex_digit, hex_places, hex_digits, hex, digits_in, put_at, put_count, Put}
@@ -59,21 +57,13 @@ unfolding digits_in hex_digits
 digits_sixteen zero n = refl
 digits_sixteen (suc k) n = rw (digits_sixteen k (n / 16)) refl
 
-tens : (n : ℕ) → up_to n TENS + 1 ≡ places n
-unfolding places up_to
-tens n = grind (arith, nat_tests)
-
-sixteens : (n : ℕ) → up_to n SIXTEENS + 1 ≡ hex_places n
-unfolding hex_places up_to
-sixteens n = grind (arith, nat_tests)
-
-pub in_decimal : (n : ℕ) {k : ℕ} → k ≡ up_to n TENS + 1 → digits_in 10 k n ≡ decimal n
+pub in_decimal : (n : ℕ) {k : ℕ} → k ≡ places n → digits_in 10 k n ≡ decimal n
 unfolding decimal
-in_decimal n {k} e = digits_ten k n ∙ ap (λ (j : ℕ). digits j n) (e ∙ tens n)
+in_decimal n {k} e = digits_ten k n ∙ ap (λ (j : ℕ). digits j n) e
 
-pub in_hex : (least n : ℕ) {k p : ℕ} → p ≡ up_to n SIXTEENS + 1 → k ≡ max least p → digits_in 16 k n ≡ hex least n
+pub in_hex : (least n : ℕ) {k p : ℕ} → p ≡ hex_places n → k ≡ max least p → digits_in 16 k n ≡ hex least n
 unfolding hex
-in_hex least n {k} {p} e f = digits_sixteen k n ∙ ap (λ (j : ℕ). hex_digits j n) (f ∙ ap (λ (j : ℕ). max least j) (e ∙ sixteens n))
+in_hex least n {k} {p} e f = digits_sixteen k n ∙ ap (λ (j : ℕ). hex_digits j n) (f ∙ ap (λ (j : ℕ). max least j) e)
 
 -- where the first power above n stands
 pub first_above : (n : ℕ) (ps : List ℕ) (r : Option ℕ)

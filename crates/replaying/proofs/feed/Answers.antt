@@ -1,9 +1,6 @@
-use Rattle.std.proofs.Common.{◌≡◌, ◌+◌, min, not, eqb, length, sym, ap, ◌∙◌, arith, length-take-le}
+use Rattle.std.proofs.Common.{◌≡◌, ◌+◌, min, not, eqb, length, ap, ◌∙◌, arith}
 use Rattle.replaying.proofs.Feeds.{feed_refused, feed_done}
 use Rattle.replaying.proofs.feed.Goals as goal
-
-pub slice_bounds-print-end-2 : goal.slice_bounds-print-end-2
-slice_bounds-print-end-2 c = sym (length-take-le c.cut_at-cut.result c.args.log.now (omega arith))
 
 pub returns-then-is_err : goal.returns-then-is_err
 returns-then-is_err c =

@@ -1,10 +1,6 @@
-use Rattle.std.proofs.Common.{◌≡◌, ◌+◌, drop, ◌∙◌, arith}
-use lib.Seq.{paste-zero}
+use Rattle.std.proofs.Common.{◌≡◌, ◌+◌, ◌∙◌, arith}
 use Rattle.replaying.proofs.Parts.{keep_turn, keep_done}
 use Rattle.replaying.proofs.keep.Goals as goal
-
-pub loop-i-init : goal.loop-i-init
-loop-i-init c = paste-zero c.args.log.now 0 (drop c.args.from c.args.log.now)
 
 pub loop-i-preserved : goal.loop-i-preserved
 loop-i-preserved c = keep_turn c.args.log.now c.args.from c.args.n c.loop-i.i (omega arith) c.requires.1 c.loop-i.invariant
