@@ -9,7 +9,7 @@ ghost use Rattle.tables.specs.Table.{partition_at, partitions_at};
 ghost use Rattle.mem_check.specs.Memory.{covered_run, slots_in, memory_rule, right_bit};
 ghost use Rattle.mem_check.specs.Windows.{run_in, Run, Ahead};
 
-use answer::Answer;
+use answer::{Answer, Code};
 use tables::SLOTS;
 
 const WIDE_SLOTS: u64 = SLOTS as u64;
@@ -109,30 +109,19 @@ pub fn memory_check(
     ensures { result ≡ memory_rule (slots_in slots.now domain) supervisor from len write }
 {
     if len == 0 {
-        return Answer {
-            code: answer::EINVAL,
-            value: 0,
-        };
+        return Code::Einval.into();
     }
     if LAST < u64::from(from) + u64::from(len) {
-        return Answer {
-            code: answer::EINVAL,
-            value: 0,
-        };
+        return Code::Einval.into();
     }
     if supervisor {
-        return Answer {
-            code: answer::OK,
-            value: 0,
-        };
+        return Code::Ok.into();
     }
     let n = covered_in(slots, domain, from, len, write);
     if len <= n {
-        return Answer {
-            code: answer::OK,
-            value: 0,
-        };
+        return Code::Ok.into();
     }
+    // The one refusal with a value: the first address that is not covered.
     Answer {
         code: answer::EPERM,
         value: from + n,

@@ -94,6 +94,7 @@ fn step(
     let a = number(cases, at + 4);
     let b = number(cases, at + 8);
     let c = number(cases, at + 12);
+    // Steps are the numbers that the case file has, by their groups.
     if op < 8 {
         put(bytes, cases, at + 16, op, a, b, c);
         return Ok(());

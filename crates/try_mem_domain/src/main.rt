@@ -46,6 +46,7 @@ fn step(rt: &impl Print, d: &mut MemDomain, case: &[u8]) -> io::Result<()> {
     let b = number(case, 8);
     let c = number(case, 12);
     let e = number(case, 16);
+    // Steps are the numbers that the case file has: this is the one place that reads them.
     match op {
         0 => made(rt, d)?,
         1 => put_slot(d, a, part(b, c, e)),

@@ -40,6 +40,7 @@ fn one(rt: &impl Print, from: &mut impl Read) -> io::Result<bool> {
     }
     let op = number(&case, 0);
     let n = number(&case, 8);
+    // Steps are the numbers that the case file has: this is the one place that reads them.
     match op {
         1 => check(rt, domain(&case), words(&case), lent)?,
         2 => plan(rt, domain(&case), n, words(&case), lent)?,

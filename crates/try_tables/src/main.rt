@@ -65,6 +65,7 @@ fn step(
     let a = number(cases, at + 4);
     let b = number(cases, at + 8);
     let c = number(cases, at + 12);
+    // Steps are the numbers that the case file has: this is the one place that reads them.
     match op {
         0 => set_object(objects, a, b, c),
         1 => set_number(threads, a, b),

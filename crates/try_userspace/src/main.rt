@@ -66,6 +66,7 @@ fn changes(
     n: u32,
     w: u64,
 ) -> io::Result<()> {
+    // Steps are the numbers that the case file has: this is the one place that reads them.
     match op {
         0 => {
             *o = KernelObject {

@@ -68,6 +68,8 @@ fn put_unknown(pen: &mut Pen, op: u32)
     pen.number(op)
 }
 
+// Operations are numbers in this crate: a line is written of any number, named or not, and what each column says of it (`field_a` .. `field_d`) goes by
+// the number. With an `Option<Operation>` each test had an arm for None, and each promise a second argument.
 // Where an operation stands among the names; behind them all it has none.
 #[tactic(auto, unfolding(crate::specs::Words::rank))]
 fn rank_of(op: u32) -> usize
