@@ -90,6 +90,7 @@ fn change(m: &mut MemDomain, operation: Operation, c: Call)
     }
 }
 
+// As `change_object` for objects: one function for both would be handed how to load, how to store and what they promise, for these three lines.
 fn change_domain(slots: &mut [u32], d: u32, operation: Operation, c: Call)
     ensures { slots.new ≡ put_domain slots.old d (domain_after (named operation) c (domain_at slots.old d)) }
 {

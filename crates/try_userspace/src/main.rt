@@ -212,6 +212,7 @@ fn mode(c: u8) -> i8 {
     }
 }
 
+// The same for the functions that C calls, by numbers of its `int`.
 fn wide_mode(c: u8) -> i32 {
     match c {
         0 => 0,
@@ -237,7 +238,7 @@ fn word(rt: &impl Print, text: &str) -> io::Result<()> {
     rt.print(text)
 }
 
-// The little-endian words at a place of a case, and 0 past its end.
+// The little-endian words at a place of a case, and 0 past its end. Each test program reads its cases by itself, as long as they are there.
 fn number(case: &[u8], at: usize) -> u32 {
     match case.get(at..) {
         Some([b0, b1, b2, b3, ..]) => u32::from_le_bytes([*b0, *b1, *b2, *b3]),

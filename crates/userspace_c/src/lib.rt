@@ -21,6 +21,7 @@ fn object(kind: u8, flags: u8, word: u64) -> KernelObject
     }
 }
 
+// C calls grant and revoke each by its name, so they stay two functions.
 pub fn userspace_grant(word: &mut u64, tid: u32) -> u32
     ensures { Grants word.old tid result word.new }
 {
