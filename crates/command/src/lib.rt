@@ -205,23 +205,6 @@ fn all_asked<R: Env>(rt: &R) -> Asked {
     a
 }
 
-// ---- reading
-
-// Reads until the buffer is full or the input ends, in whatever pieces it comes; how many bytes those are.
-fn fill<R: Read>(input: &mut R, buf: &mut [u8]) -> io::Result<usize>
-    ensures { IfOk result (λ n. IsPrefixLen n buf.new) }
-{
-    let mut done = 0;
-    while done < buf.len() {
-        let n = input.read(&mut buf[done..])?;
-        if n == 0 {
-            return Ok(done);
-        }
-        done += n;
-    }
-    Ok(done)
-}
-
 // ---- the calls
 
 // A state, and the buffers through which calls come and answers go.
@@ -358,7 +341,7 @@ fn load<R: Files>(rt: &R, path: &[u8], file: &mut [u8]) -> io::Result<usize>
     ensures { IfOk result (λ n. IsPrefixLen n file.new) }
 {
     let mut opened = fs::open(rt, name_of(path)?)?;
-    fill(&mut opened, file)
+    reading::read_full(&mut opened, file)
 }
 
 fn open<R: Files>(rt: &R, streams: Streams, path: &[u8], style: Style) -> Result<(), Stopped> {

@@ -5,7 +5,6 @@
 #![tactic(auto)]
 
 ghost use Rattle.std.specs.Prelude.{◌<◌, ◌≤◌, length, IfOk};
-ghost use Rattle.std.specs.Io.{ReadsAtMost};
 
 use std::io;
 use std::io::Read;
@@ -64,7 +63,7 @@ fn one(
     bytes: &mut [u8],
 ) -> io::Result<bool> {
     let mut head = [0u8; 16];
-    let n = read_full(from, &mut head)?;
+    let n = reading::read_full(from, &mut head)?;
     if n < 16 {
         return Ok(false);
     }
@@ -85,22 +84,6 @@ fn one(
     Ok(true)
 }
 
-// Reads until `into` is full or the input ends, and answers how many bytes it put at its start. `read_exact` doesn't say where an input ended, and each
-// turn goes on by as many bytes as came: no `for` counts them.
-fn read_full(from: &mut impl Read, into: &mut [u8]) -> io::Result<usize>
-    ensures { ReadsAtMost result into.new }
-{
-    let mut done = 0;
-    while done < into.len() {
-        let n = from.read(&mut into[done..])?;
-        if n == 0 {
-            break;
-        }
-        done += n;
-    }
-    Ok(done)
-}
-
 fn set_object(objects: &mut [u64], lent: Lent) {
     if let Some(number) = objects.get_mut(lent.x as usize) {
         *number = u64::from(lent.y) + u64::from(lent.z) * HALF;
@@ -118,7 +101,7 @@ fn listen(from: &mut impl Read, bytes: &mut [u8], x: u32) -> io::Result<usize>
     ensures { IfOk result (λ n. n ≤ length bytes.old) }
 {
     let n = least(x % 65536, bytes.len());
-    read_full(from, &mut bytes[..n])?;
+    reading::read_full(from, &mut bytes[..n])?;
     Ok(n)
 }
 

@@ -4,17 +4,15 @@
 #![tactic(auto)]
 
 ghost use Rattle.std.specs.Prelude.{◌<◌, ◌≤◌};
-ghost use Rattle.std.specs.Io.{ReadsAtMost};
 
 use std::io;
-use std::io::Read;
 
 // The image's bytes stand in front, what is written behind them.
 const HALF: usize = 8192;
 
 fn main(rt: HostRuntime) -> io::Result<()> {
     let mut cases = [0u8; 65536];
-    let n = read_full(&mut rt.stdin(), &mut cases)?;
+    let n = reading::read_full(&mut rt.stdin(), &mut cases)?;
     let mut objects = [0u64; 512];
     let mut threads = [0u32; 192];
     let mut slots = [0u32; 384];
@@ -28,22 +26,6 @@ fn main(rt: HostRuntime) -> io::Result<()> {
         &cases,
         n,
     )
-}
-
-// Reads until `into` is full or the input ends, and answers how many bytes it put at its start.
-fn read_full(from: &mut impl Read, into: &mut [u8]) -> io::Result<usize>
-    ensures { ReadsAtMost result into.new }
-{
-    let mut done = 0;
-    // a read gives as many bytes as come: no range has these places
-    while done < into.len() {
-        let n = from.read(&mut into[done..])?;
-        if n == 0 {
-            break;
-        }
-        done += n;
-    }
-    Ok(done)
 }
 
 fn run(

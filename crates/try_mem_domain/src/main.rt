@@ -2,41 +2,23 @@
 // words to a case: a number of `step`, then its four arguments. tests/mem_domain/cases.py makes it, and works out `stdout` by a model.
 #![tactic(auto)]
 
-ghost use Rattle.std.specs.Io.{ReadsAtMost};
-
 use answer::{Answer, Code};
 use mem_domain::MemDomain;
 use mem_partition::MemPartition;
 use std::fmt::Display;
 use std::io;
-use std::io::Read;
 
 // How many bytes a case has.
 const CASE: usize = 20;
 
 fn main(rt: HostRuntime) -> io::Result<()> {
     let mut cases = [0u8; 65536];
-    let n = read_full(&mut rt.stdin(), &mut cases)?;
+    let n = reading::read_full(&mut rt.stdin(), &mut cases)?;
     let mut d = MemDomain::init();
     for case in cases.chunks_exact(CASE).take(n.div_ceil(CASE)) {
         step(&rt, &mut d, case)?;
     }
     Ok(())
-}
-
-// Reads until `into` is full or the input ends, and answers how many bytes it put at its start.
-fn read_full(from: &mut impl Read, into: &mut [u8]) -> io::Result<usize>
-    ensures { ReadsAtMost result into.new }
-{
-    let mut done = 0;
-    while done < into.len() {
-        let n = from.read(&mut into[done..])?;
-        if n == 0 {
-            break;
-        }
-        done += n;
-    }
-    Ok(done)
 }
 
 // One case. Steps 1 and 2 write into the record itself, so that any record can be tried, unsound ones too.

@@ -4,7 +4,6 @@
 #![tactic(auto)]
 
 ghost use Rattle.std.specs.Prelude.{◌<◌};
-ghost use Rattle.std.specs.Io.{ReadsAtMost};
 
 use answer::Code;
 use mem_domain::MemDomain;
@@ -30,7 +29,7 @@ fn main(rt: HostRuntime) -> io::Result<()> {
 // One case, where there is a whole one.
 fn one(rt: &impl Print, from: &mut impl Read) -> io::Result<bool> {
     let mut case = [0u8; CASE];
-    let n = read_full(from, &mut case)?;
+    let n = reading::read_full(from, &mut case)?;
     if n < CASE {
         return Ok(false);
     }
@@ -47,22 +46,6 @@ fn one(rt: &impl Print, from: &mut impl Read) -> io::Result<bool> {
         _ => again(rt, domain(&case), words(&case), lent, n)?,
     }
     Ok(true)
-}
-
-// Reads until `into` is full or the input ends, and answers how many bytes it put at its start. `read_exact` doesn't say where an input ended, and each
-// turn goes on by as many bytes as came: no `for` counts them.
-fn read_full(from: &mut impl Read, into: &mut [u8]) -> io::Result<usize>
-    ensures { ReadsAtMost result into.new }
-{
-    let mut done = 0;
-    while done < into.len() {
-        let n = from.read(&mut into[done..])?;
-        if n == 0 {
-            break;
-        }
-        done += n;
-    }
-    Ok(done)
 }
 
 fn check(rt: &impl Print, d: MemDomain, words: [u32; 34], lent: usize) -> io::Result<()>

@@ -3,37 +3,19 @@
 #![tactic(auto)]
 
 ghost use Rattle.std.specs.Prelude.{◌+◌, ◌≤◌};
-ghost use Rattle.std.specs.Io.{ReadsAtMost};
 
 use mem_partition::MemPartition;
 use std::io;
-use std::io::Read;
 use tables::Thread;
 use userspace::KernelObject;
 
 fn main(rt: HostRuntime) -> io::Result<()> {
     let mut cases = [0u8; 65536];
-    let n = read_full(&mut rt.stdin(), &mut cases)?;
+    let n = reading::read_full(&mut rt.stdin(), &mut cases)?;
     let mut objects = [0u64; 512];
     let mut threads = [0u32; 192];
     let mut slots = [0u32; 384];
     run(&rt, &mut objects, &mut threads, &mut slots, &cases, n)
-}
-
-// Reads until `into` is full or the input ends, and answers how many bytes it put at its start.
-fn read_full(from: &mut impl Read, into: &mut [u8]) -> io::Result<usize>
-    ensures { ReadsAtMost result into.new }
-{
-    let mut done = 0;
-    // a read gives as many bytes as come: no range has these places
-    while done < into.len() {
-        let n = from.read(&mut into[done..])?;
-        if n == 0 {
-            break;
-        }
-        done += n;
-    }
-    Ok(done)
 }
 
 fn run(

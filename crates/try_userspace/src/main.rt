@@ -3,12 +3,9 @@
 // out `stdout` by a model that keeps a list of 64 yes or no, as upstream does.
 #![tactic(auto)]
 
-ghost use Rattle.std.specs.Io.{ReadsAtMost};
-
 use answer::{Answer, Code};
 use std::fmt::Display;
 use std::io;
-use std::io::Read;
 use userspace::KernelObject;
 use userspace_names::InitCheck;
 
@@ -17,27 +14,12 @@ const CASE: usize = 16;
 
 fn main(rt: HostRuntime) -> io::Result<()> {
     let mut cases = [0u8; 65536];
-    let n = read_full(&mut rt.stdin(), &mut cases)?;
+    let n = reading::read_full(&mut rt.stdin(), &mut cases)?;
     let mut o = KernelObject::new(0);
     for case in cases.chunks_exact(CASE).take(n.div_ceil(CASE)) {
         step(&rt, &mut o, case)?;
     }
     Ok(())
-}
-
-// Reads until `into` is full or the input ends, and answers how many bytes it put at its start.
-fn read_full(from: &mut impl Read, into: &mut [u8]) -> io::Result<usize>
-    ensures { ReadsAtMost result into.new }
-{
-    let mut done = 0;
-    while done < into.len() {
-        let n = from.read(&mut into[done..])?;
-        if n == 0 {
-            break;
-        }
-        done += n;
-    }
-    Ok(done)
 }
 
 // One case. Step 0 puts the record itself, so that any record can be tried, unsound ones too.
