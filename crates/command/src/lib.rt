@@ -389,7 +389,7 @@ fn run<R: Env + Files>(rt: &R, streams: Streams) -> Result<(), Stopped> {
     }
 }
 
-// The whole of it. The status is 0, 1 or 2.
+// The whole of it. The status is 0, 1 or 2: a number, since that is its promise.
 pub fn wardlatch_replay<R: Env + Files>(rt: &R, streams: Streams) -> u32
     ensures { result < 3 }
 {

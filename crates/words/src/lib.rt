@@ -395,6 +395,7 @@ fn spell_answer(pen: &mut Pen, place: bool, code: u32, value: u32)
     pen.word(b"\n")
 }
 
+// Whether the value is a place stays a flag, as `answer_words` has it.
 pub fn put_answer(text: &mut [u8], at: usize, place: bool, code: u32, value: u32) -> usize
     ensures { Placed widest_answer text.old at (answer_words place code value) result text.new }
 {
