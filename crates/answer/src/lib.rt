@@ -9,6 +9,7 @@ ghost use Rattle.answer.specs.Answer.{number_of, code_of, decoded, told, done_or
 use std::error::Error;
 use std::fmt;
 
+// Numbers beside the names: what C is answered with, and what a run's `out` holds.
 pub const OK: u32 = 0;
 
 pub const EINVAL: u32 = 1;

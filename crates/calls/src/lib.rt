@@ -120,7 +120,7 @@ fn hear(objects: &mut [u64], threads: &mut [u32], slots: &mut [u32], bytes: &[u8
     }
 }
 
-// One call: any tables, any bytes. A state that breaks a rule is VALUE before all else.
+// One call: any tables, any bytes. A state that breaks a rule is VALUE before all else. An `Answer` and no Result: a refused memory check has a value (SPEC 7.45).
 pub fn call(objects: &mut [u64], threads: &mut [u32], slots: &mut [u32], bytes: &[u8]) -> Answer
     ensures { Called objects.old threads.old slots.old bytes.now result objects.new threads.new slots.new }
 {

@@ -39,7 +39,7 @@ pub enum Operation {
     Remove = 28,
 }
 
-// The operation that a number names; None where it is unknown.
+// The operation that a number names; None where it is unknown, which is no error here: what it is answered with comes behind other tests (SPEC 7.4).
 #[tactic(auto, unfolding(crate::specs::Calls::operation_of))]
 pub fn operation_of(number: u32) -> Option<Operation>
     ensures { result ≡ operation_of number }
@@ -67,6 +67,7 @@ pub fn operation_of(number: u32) -> Option<Operation>
     }
 }
 
+// No conversion: it reads a place, and gives 0 past the end.
 fn byte_at(bytes: &[u8], i: usize) -> u8
     ensures { result ≡ get_or bytes.now i 0 }
 {

@@ -129,6 +129,7 @@ fn put_threads(out: &mut [u8], at: usize, threads: &[u32; THREAD_NUMBERS])
     }
 }
 
+// The record is a part of the image and the numbers a part of the table, both of one domain: slices of longer ones.
 fn put_domain(rec: &mut [u8], slots: &[u32])
     requires { (length rec.old ≡ 192) × (length slots.now ≡ 48) }
     ensures { rec.new ≡ domain_bytes slots.now }

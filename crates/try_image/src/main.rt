@@ -134,6 +134,7 @@ fn number_step(
     c: u32,
 ) {
     let i = u64::from(a);
+    // Steps are the numbers that the case file has.
     match op {
         8 => tables::store(objects, i, u64::from(c) << 32 | u64::from(b)),
         9 => tables::store(threads, i, b),
@@ -190,6 +191,7 @@ fn read(
     report(rt, code, rest, objects, threads, slots)
 }
 
+// The answer as the number that is printed.
 fn report(
     rt: &impl Print,
     code: u32,

@@ -228,6 +228,7 @@ fn number(case: &[u8], at: usize) -> u32 {
     }
 }
 
+// No conversion: it reads a place, and gives 0 past the end.
 fn wide(case: &[u8], at: usize) -> u64 {
     match case.get(at..) {
         Some([b0, b1, b2, b3, b4, b5, b6, b7, ..]) => {

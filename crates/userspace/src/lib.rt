@@ -13,7 +13,7 @@ use userspace_names::InitCheck;
 // Threads 0 to 63 have a bit.
 pub const MAX_THREADS: u32 = 64;
 
-// A record as it is stored: type and flags are compared and never judged.
+// A record as it is stored: type and flags are compared and never judged. They stay numbers: it is a row of a table that C lends, which may hold any.
 #[derive(Clone, Copy, Debug, Default, PartialEq, Eq, Hash)]
 pub struct KernelObject {
     pub obj_type: u8,

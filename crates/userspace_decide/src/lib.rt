@@ -20,6 +20,7 @@ pub fn access_decide(public: bool, held: bool) -> bool
     public || held
 }
 
+// Upstream's function over plain values (docs/CONTRACTS.md): the mode stays a number, and any may come.
 #[tactic(auto, unfolding(crate::specs::Decide::judged))]
 pub fn validate_decide(fits: bool, allowed: bool, ready: bool, mode: i8) -> Result<(), Code>
     ensures { result ≡ judged fits allowed ready (mode_of mode) }

@@ -66,9 +66,9 @@ nth_most (suc k) (name ∷ names) = omega (arith, nth_most k names)
 one_of : (m k : ℕ) (names : Names) → longest names ≤ m → Most m (nth k names)
 one_of m k names h = record { bound = omega (arith, nth_most k names, h) }
 
-pub operation_name_most : (k : ℕ) → length (nth k operation_names) ≤ widest_operation
+pub rank_most : (k : ℕ) → length (nth k operation_names) ≤ widest_operation
 unfolding longest
-operation_name_most k = (one_of widest_operation k operation_names (omega arith)).bound
+rank_most k = (one_of widest_operation k operation_names (omega arith)).bound
 
 pub mode_name_most : (k : ℕ) → length (nth k mode_names) ≤ 23
 unfolding longest
@@ -80,7 +80,7 @@ answer_name_most k = (one_of 10 k answer_names (omega arith)).bound
 
 operation_most : (op : ℕ) → Most widest_operation (operation op)
 unfolding operation unknown
-operation_most op = either (nat_lt (rank op) 18) (record { bound = operation_name_most (rank op) }) (word 10 (ascii "operation ") (omega arith) and number op)
+operation_most op = either (nat_lt (rank op) 18) (record { bound = rank_most (rank op) }) (word 10 (ascii "operation ") (omega arith) and number op)
 
 name_most : (code : ℕ) → Most 10 (answer_name code)
 unfolding answer_name

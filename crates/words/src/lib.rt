@@ -193,6 +193,7 @@ fn put_type(pen: &mut Pen, n: u32)
     put_named(pen, b", type ", &TYPES, b"type", n)
 }
 
+// As the type, the access and the rights: each has a table and words of its own, and `put_named` is what they share.
 fn put_role(pen: &mut Pen, n: u32)
     ensures { Writes pen.old pen.new widest_field (role n) }
 {
@@ -275,6 +276,7 @@ fn on_domain(op: u32) -> bool
     matches!(op, 27 | 28)
 }
 
+// The four fields go by tests and words of their own (`field_a` .. `field_d`); `put_field` is what they share.
 fn put_a(pen: &mut Pen, op: u32, n: u32)
     ensures { Writes pen.old pen.new widest_field (field_a op n) }
 {
@@ -395,7 +397,7 @@ fn spell_answer(pen: &mut Pen, place: bool, code: u32, value: u32)
     pen.word(b"\n")
 }
 
-// Whether the value is a place stays a flag, as `answer_words` has it.
+// Whether the value is a place stays a flag, as `answer_words` has it. A place comes back, as from `put_call`.
 pub fn put_answer(text: &mut [u8], at: usize, place: bool, code: u32, value: u32) -> usize
     ensures { Placed widest_answer text.old at (answer_words place code value) result text.new }
 {
