@@ -13,7 +13,6 @@ use Rattle.std.specs.Prelude.{Result, Ok, Err}
 use Rattle.mem_domain.specs.Domain.{active_count}
 use Rattle.mem_domain.specs.declared.MemDomain.{MemDomain}
 use Rattle.domain_rules.specs.Sound.{domain_sound}
-
 use Rattle.planner.specs.Planner.{slots_fit, plan_of, word_count, made, planned, words_after, Made, Planned}
 
 module _ (d : MemDomain) (regions room : ℕ) where
