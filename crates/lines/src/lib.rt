@@ -65,7 +65,7 @@ pub trait Form {
 // Ten digits, a space, ten digits and the line's end.
 pub const LONGEST: usize = 22;
 
-// A line of four bytes, which most are: an answer below ten with value 0. It costs no counting of digits and no test for room.
+// A line of four bytes, which most are: an answer below ten with value 0. It costs no counting of digits, and one test for room, the line's.
 fn put_short(pen: &mut Pen, code: u32)
     requires { (code < 10) × Room pen.old 22 }
     ensures { Wrote pen.old pen.new 22 (line code 0) }
