@@ -1,8 +1,8 @@
 -- The table of answers, line by line, and that names and numbers are each other's inverse.
-use Rattle.std.specs.Prelude.{ℕ, ◌<◌, ◌≤◌, ◌≡◌, pos, neg_ℤ, Some, None, Err}
+use Rattle.std.specs.Prelude.{ℕ, ◌<◌, ◌≤◌, ◌≡◌, pos, neg_ℤ, Some, None, Result, Err, ⊤}
 use Rattle.std.proofs.Common.{refl, arith}
 use Rattle.answer.specs.Tests.{gt_eqb}
-use Rattle.answer.specs.Answer.{number_of, code_of, errno_of, known}
+use Rattle.answer.specs.Answer.{number_of, code_of, errno_of, known, value_in, done_or}
 use Rattle.answer.specs.declared.Code.{Code}
 use Rattle.answer.specs.declared.Code.TheVariants.{Ok, Einval, Eperm, Ebadf, Eaddrinuse, Enospc, Enoent, Short, Magic, Value, Noplan, Room, Differs}
 
@@ -66,3 +66,11 @@ code_of_number Differs = refl
 pub no_name_from_13 : (n : ℕ) → 13 ≤ n → code_of n ≡ None
 unfolding code_of
 no_name_from_13 n h = simp (gt_eqb n 0 (omega arith), gt_eqb n 1 (omega arith), gt_eqb n 2 (omega arith), gt_eqb n 3 (omega arith), gt_eqb n 4 (omega arith), gt_eqb n 5 (omega arith), gt_eqb n 6 (omega arith), gt_eqb n 7 (omega arith), gt_eqb n 8 (omega arith), gt_eqb n 9 (omega arith), gt_eqb n 10 (omega arith), gt_eqb n 11 (omega arith), gt_eqb n 12 (omega arith))
+
+-- told as a number and a value, a refusal has the value 0
+pub refusal_value : (c : Code) → value_in (Err c) ≡ 0
+refusal_value c = refl
+
+-- and so has all that has nothing to tell
+pub done_value : (r : Result ⊤ Code) → (done_or r).value ≡ 0
+done_value r = refl

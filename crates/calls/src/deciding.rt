@@ -206,7 +206,6 @@ fn grant(t: Tables, c: Call) -> Answer
     grant_rule(t, c)
 }
 
-#[inline(never)]
 fn release(t: Tables, c: Call) -> Answer
     ensures { result ≡ judge_op release·op (seen t.entry) c }
 {
@@ -234,7 +233,6 @@ fn check(t: Tables, c: Call) -> Answer
     mem_check::memory_check(slots, me.domain, me.role == 2, c.b, c.c, c.d == 1)
 }
 
-#[inline(never)]
 fn exit(t: Tables, c: Call) -> Answer
     ensures { result ≡ judge_op exit·op (seen t.entry) c }
 {
@@ -246,7 +244,6 @@ fn exit(t: Tables, c: Call) -> Answer
 
 // ---- the calls of supervisors that name a handle
 
-#[inline(never)]
 fn create(t: Tables, c: Call) -> Answer
     ensures { result ≡ judge_op (sup create·op) (seen t.entry) c }
 {
@@ -262,7 +259,6 @@ fn create(t: Tables, c: Call) -> Answer
     Code::Ok.into()
 }
 
-#[inline(never)]
 fn delete(t: Tables, c: Call) -> Answer
     ensures { result ≡ judge_op (sup delete·op) (seen t.entry) c }
 {
@@ -278,7 +274,6 @@ fn delete(t: Tables, c: Call) -> Answer
     Code::Ok.into()
 }
 
-#[inline(never)]
 fn revoke(t: Tables, c: Call) -> Answer
     ensures { result ≡ judge_op (sup revoke·op) (seen t.entry) c }
 {
@@ -295,7 +290,6 @@ fn revoke(t: Tables, c: Call) -> Answer
 }
 
 // Init, uninit, recycle and make public: a taken handle is all that they want.
-#[inline(never)]
 fn bare(t: Tables, c: Call) -> Answer
     ensures { result ≡ judge_op (sup init·op) (seen t.entry) c }
 {
@@ -323,7 +317,6 @@ fn create_thread_rule(t: Tables, c: Call) -> Answer
     Code::Ok.into()
 }
 
-#[inline(never)]
 fn create_thread(t: Tables, c: Call) -> Answer
     ensures { result ≡ judge_op (sup thread·op) (seen t.entry) c }
 {
@@ -338,7 +331,6 @@ fn create_thread(t: Tables, c: Call) -> Answer
 
 // ---- the calls of supervisors on threads and domains
 
-#[inline(never)]
 fn end(t: Tables, c: Call) -> Answer
     ensures { result ≡ judge_op (sup end·op) (seen t.entry) c }
 {
@@ -351,7 +343,6 @@ fn end(t: Tables, c: Call) -> Answer
     Code::Ok.into()
 }
 
-#[inline(never)]
 fn inherit(t: Tables, c: Call) -> Answer
     ensures { result ≡ judge_op (sup inherit·op) (seen t.entry) c }
 {
@@ -364,7 +355,6 @@ fn inherit(t: Tables, c: Call) -> Answer
     Code::Ok.into()
 }
 
-#[inline(never)]
 fn assign(t: Tables, c: Call) -> Answer
     ensures { result ≡ judge_op (sup assign·op) (seen t.entry) c }
 {
@@ -377,7 +367,6 @@ fn assign(t: Tables, c: Call) -> Answer
     Code::Ok.into()
 }
 
-#[inline(never)]
 fn add(t: Tables, c: Call) -> Answer
     ensures { result ≡ judge_op (sup add·op) (seen t.entry) c }
 {
@@ -392,7 +381,6 @@ fn add(t: Tables, c: Call) -> Answer
     t.domain(c.a).add_partition(p).into()
 }
 
-#[inline(never)]
 fn remove(t: Tables, c: Call) -> Answer
     ensures { result ≡ judge_op (sup remove·op) (seen t.entry) c }
 {

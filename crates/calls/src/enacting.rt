@@ -57,7 +57,6 @@ fn change_thread(threads: &mut [u32], t: u32, operation: Operation, c: Call)
 }
 
 // Exit names the caller, the others field b.
-#[inline(never)]
 pub fn change_threads(threads: &mut [u32], operation: Operation, c: Call)
     ensures { threads.new ≡ enact_threads (thread_change (named operation) c) threads.old }
 {
@@ -99,7 +98,6 @@ fn change_domain(slots: &mut [u32], d: u32, operation: Operation, c: Call)
     tables::store_domain(slots, d, m);
 }
 
-#[inline(never)]
 pub fn change_slots(slots: &mut [u32], operation: Operation, c: Call)
     ensures { slots.new ≡ enact_slots (domain_change (named operation) c) slots.old }
 {

@@ -115,7 +115,6 @@ fn grant_object(objects: &mut [u64], h: u32, t: u32)
     object_table::store_object(objects, h, o);
 }
 
-#[inline(never)]
 fn change_object(objects: &mut [u64], h: u32, operation: Operation, c: Call)
     ensures { objects.new ≡ put_object objects.old h (object_after (named operation) c (object_at objects.old h)) }
 {
@@ -124,7 +123,8 @@ fn change_object(objects: &mut [u64], h: u32, operation: Operation, c: Call)
     object_table::store_object(objects, h, o);
 }
 
-#[inline(never)]
+// Compiled anew at each call below, for the one operation that stands there: so the pass over 256 objects asks for none.
+#[inline(always)]
 fn change_each(objects: &mut [u64], operation: Operation, c: Call)
     ensures { objects.new ≡ each_to object_at put_object (object_after (named operation) c) objects.old HANDLES·spec }
 {
@@ -147,7 +147,9 @@ pub fn change_objects(objects: &mut [u64], operation: Operation, c: Call)
         | Operation::Uninit
         | Operation::Recycle
         | Operation::MakePublic => change_object(objects, c.a, operation, c),
-        Operation::Exit | Operation::End | Operation::Inherit => change_each(objects, operation, c),
+        Operation::Exit => change_each(objects, Operation::Exit, c),
+        Operation::End => change_each(objects, Operation::End, c),
+        Operation::Inherit => change_each(objects, Operation::Inherit, c),
         _ => {}
     }
 }

@@ -1,5 +1,5 @@
 -- What the loop over the input cites: a ready state and roomy buffers make every feeding Ok, and are so again behind it.
-use Rattle.std.proofs.Common.{◌≡◌, ℕ, ◌+◌, ◌*◌, ◌/◌, ◌<◌, ◌≤◌, Bool, true, false, Result, Ok, IsOk, is_ok, List, [], ◌∷◌, length, take, drop, sym, ap, ◌∙◌, arith, length-append, length-drop, length-take, le-ltb}
+use Rattle.std.proofs.Common.{◌≡◌, ℕ, ◌+◌, ◌*◌, ◌/◌, ◌<◌, ◌≤◌, Bool, true, false, Result, Ok, IsOk, is_ok, List, [], ◌∷◌, length, take, drop, refl, sym, ap, ◌∙◌, arith, length-append, length-drop, length-take, length-take-le, le-ltb}
 use borrow.Rule.Slice.PartMut.{mid_of, put_mid, same_len_mid}
 use Rattle.answer.specs.declared.Code.{Code}
 use Rattle.answer.specs.Stores.{cat}
@@ -15,7 +15,14 @@ use Rattle.replaying.specs.declared.Style.TheVariants.{Numbers, Words}
 use Rattle.replaying.specs.Printing.{longest, lines_to, laid, print_answer, printed_parts}
 use Rattle.replaying.specs.Feeding.{cut_at, ripe, rest, unanswered, FedIs}
 use Rattle.replaying.proofs.Parts.{parts_are}
-use Rattle.command.specs.Ready.{Roomy, Ready}
+use Rattle.command.specs.Ready.{Roomy, Ready, Kept}
+use Rattle.command.specs.Counts.{IsPrefixLen}
+
+-- bytes counted at the start of a buffer whose length is known
+pub counts : (n m : ℕ) (xs : List ℕ) → length xs ≡ m → n ≤ m → IsPrefixLen n xs
+counts n m xs e h =
+    let g : n ≤ length xs = omega (arith, e) in
+    (g, sym (length-take-le n xs g))
 
 -- ---- room
 
@@ -103,3 +110,21 @@ module _ (line_of : ℕ → List ℕ) (code : ℕ) {before after : List ℕ} {p 
       let same : Ok m ≡ Ok (length (cat line_of 1)) = sym e ∙ line_put.0 in
       let a : m ≡ length (cat line_of 1) = cc in
       omega (arith, a, ap length line_put.1 ∙ length-append (cat line_of 1) (drop (length (cat line_of 1)) before))
+
+-- ---- lengths that stay, turn by turn
+
+pub kept_none : (os ts ss log out text : List ℕ) → Kept os ts ss log out text os ts ss log out text
+kept_none os ts ss log out text = record { objects = refl; threads = refl; slots = refl; bytes = refl; numbers = refl; lines = refl }
+
+pub kept_more :
+    {os₀ ts₀ ss₀ log₀ out₀ text₀ os ts ss log out text os' ts' ss' log' out' text' : List ℕ} → Kept os₀ ts₀ ss₀ log₀ out₀ text₀ os ts ss log out text →
+    Kept os ts ss log out text os' ts' ss' log' out' text' → Kept os₀ ts₀ ss₀ log₀ out₀ text₀ os' ts' ss' log' out' text'
+kept_more a b =
+    record {
+      objects = b.objects ∙ a.objects;
+      threads = b.threads ∙ a.threads;
+      slots = b.slots ∙ a.slots;
+      bytes = b.bytes ∙ a.bytes;
+      numbers = b.numbers ∙ a.numbers;
+      lines = b.lines ∙ a.lines;
+    }

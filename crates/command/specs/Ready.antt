@@ -1,6 +1,6 @@
 -- What the loop over the input needs at each turn, and has again behind it: a state that keeps the rules, less than one call's bytes at the buffer's front,
 -- and buffers in which the answers of a full log buffer and their longest lines have room.
-use Rattle.std.specs.Prelude.{ℕ, ◌*◌, ◌≤◌, ◌<◌, List, length}
+use Rattle.std.specs.Prelude.{ℕ, ◌*◌, ◌≤◌, ◌<◌, ◌≡◌, List, length}
 use Rattle.rules.specs.Rules.{Sound}
 use Rattle.calls.specs.Calls.{parts_in}
 use Rattle.replaying.specs.declared.Style.{Style}
@@ -20,3 +20,12 @@ pub record Ready (style : Style) (os ts ss log out text : List ℕ) (have : ℕ)
 
 abbrev pub IsReady : Session → Type 0
 IsReady s = Ready s.style s.objects.now s.threads.now s.slots.now s.log.now s.out.now s.text.now s.have
+
+-- six lent slices keep their lengths
+pub record Kept (os ts ss log out text os' ts' ss' log' out' text' : List ℕ) : Type 0 where
+  pub objects : length os' ≡ length os
+  pub threads : length ts' ≡ length ts
+  pub slots : length ss' ≡ length ss
+  pub bytes : length log' ≡ length log
+  pub numbers : length out' ≡ length out
+  pub lines : length text' ≡ length text

@@ -5,10 +5,12 @@
 // in which order, no contract can say.
 #![tactic(auto)]
 
-ghost use Rattle.std.specs.Prelude.{◌≡◌, ◌^◌, ◌<◌, IfOk};
+ghost use Rattle.std.specs.Prelude.{◌≡◌, ◌^◌, ◌<◌, ◌==◌, ◌&&◌, not, eqb, length, get_or, if◌then◌else◌, IfOk};
 ghost use Rattle.rules.specs.Rules.{Sound};
 ghost use Rattle.command.specs.Ready.{Roomy, IsReady};
 ghost use Rattle.command.specs.Counts.{IsPrefixLen};
+ghost use Rattle.command.specs.declared.Stopped.TheVariants.{Failed};
+ghost use Rattle.command.specs.declared.Course.TheVariants.{Ended, GoesOn};
 
 use replaying::Style;
 use std::env::{Env, FillError};
@@ -58,7 +60,9 @@ pub struct Streams {
 // ---- what is said
 
 // One line on standard error.
-fn complain(errors: Stderr, line: &[u8]) -> Stopped {
+fn complain(errors: Stderr, line: &[u8]) -> Stopped
+    ensures { result ≡ Failed }
+{
     let _ = Print::write_all(&errors, line);
     Stopped::Failed
 }
@@ -80,7 +84,9 @@ fn put_words(errors: Stderr, why: io::Error) {
 }
 
 // What failed, and the system's words for why.
-fn fail(errors: Stderr, what: &[u8], why: io::Error) -> Stopped {
+fn fail(errors: Stderr, what: &[u8], why: io::Error) -> Stopped
+    ensures { result ≡ Failed }
+{
     complain(errors, b"replay: ");
     complain(errors, what);
     complain(errors, b": ");
@@ -163,8 +169,14 @@ fn with_option(a: Asked, word: &[u8]) -> Asked {
     }
 }
 
+fn is_option(word: &[u8]) -> bool
+    ensures { result ≡ (not (eqb (length word.now) 0) && eqb (get_or word.now 0 0) 45) }
+{
+    matches!(word, [b'-', ..])
+}
+
 fn with_word(a: Asked, word: &[u8], i: usize) -> Asked {
-    if a.options && word.starts_with(b"-") {
+    if a.options && is_option(word) {
         return with_option(a, word);
     }
     with_file(a, i)
@@ -222,8 +234,25 @@ struct Session<'a> {
     first: u32,
 }
 
-// What has come by now is answered and printed. Whether the input goes on: where nothing came, it has ended.
-fn turn(streams: Streams, session: &mut Session) -> Result<bool, Stopped>
+// How the input stands.
+#[derive(Clone, Copy)]
+enum Course {
+    Ended,
+    GoesOn,
+}
+
+// Where nothing came, the input has ended.
+fn course_after(came: usize) -> Course
+    ensures { result ≡ (if came == 0 then Ended else GoesOn) }
+{
+    if came == 0 {
+        return Course::Ended;
+    }
+    Course::GoesOn
+}
+
+// What has come by now is answered and printed.
+fn turn(streams: Streams, session: &mut Session) -> Result<Course, Stopped>
     requires { IsReady session.old }
     ensures { IsReady session.new }
 {
@@ -246,16 +275,19 @@ fn turn(streams: Streams, session: &mut Session) -> Result<bool, Stopped>
     session.have = fed.left;
     session.first = fed.next;
     print(streams, &session.text[..fed.put.unwrap()])?;
-    Ok(came != 0)
+    Ok(course_after(came))
 }
 
-// A proved loop has to end, and nothing says that the input does: the turns are counted up to a number that no run reaches.
-fn every(streams: Streams, session: &mut Session) -> Result<(), Stopped>
+// A proved loop has to end, and nothing says that the input does: the turns are counted up to a number that no run reaches. What the last turn said of the
+// input is handed back, so that the loop is left, where nothing failed, with an input that has ended.
+fn every(streams: Streams, session: &mut Session) -> Result<Course, Stopped>
     requires { IsReady session.old }
+    ensures { IfOk result (λ course. course ≡ Ended) }
 {
     for _ in 0..u64::MAX {
-        if !turn(streams, session)? {
-            return Ok(());
+        let course = turn(streams, session)?;
+        if matches!(course, Course::Ended) {
+            return Ok(course);
         }
     }
     Err(complain(streams.errors, b"replay: standard input does not end\n"))
@@ -287,7 +319,8 @@ fn answer_all<const LOG: usize, const ANSWERS: usize, const LINES: usize>(
         have: 0,
         first: 1,
     };
-    every(streams, &mut session)
+    every(streams, &mut session)?;
+    Ok(())
 }
 
 // ---- the image

@@ -47,8 +47,8 @@ pub fn is_apart(p: MemPartition, q: MemPartition) -> bool
 pub trait Slots {
     ghost held: { Self → List MemPartition·spec };
 
+    // Behind the last one comes nothing but free slots.
     fn slot(&self, k: usize) -> MemPartition
-        requires { k < 16 }
         ensures { result ≡ slot_at (held self.now) k };
 }
 
@@ -56,7 +56,7 @@ impl Slots for MemDomain {
     ghost held = { λ d. d.partitions };
 
     fn slot(&self, k: usize) -> MemPartition {
-        self.partitions[k]
+        self.partitions.get(k).copied().unwrap_or_default()
     }
 }
 

@@ -6,7 +6,7 @@
 ghost use Rattle.std.specs.Prelude.{◌≡◌, ◌+◌, ◌*◌, ◌^◌, ◌<◌, ◌≤◌, length};
 ghost use Rattle.std.proofs.Common.{lit<};
 ghost use Rattle.lines.specs.Lines.{Lines};
-ghost use Rattle.lines.specs.Pens.{Room, Writes, Wrote};
+ghost use Rattle.lines.specs.Pens.{Writes, Stays};
 ghost use Rattle.calls.specs.Calls.{part_at};
 ghost use Rattle.words.specs.Words.{widest_call};
 ghost use Rattle.explain.specs.Words.{cut_off, part_words, number_at, is_address, explained, explained_at, longest_line};
@@ -52,10 +52,9 @@ fn is_address(bytes: &[u8], code: u32) -> bool
 
 // The k-th part of a log: sixteen bytes, what is left at the end, or nothing past it.
 fn part_of(log: &[u8], k: usize) -> &[u8]
-    requires { 16 * k < 2 ^ 64 }
     ensures { result.now ≡ part_at log.now k }
 {
-    let rest = &log[log.len().min(CALL * k)..];
+    let rest = &log[log.len().min(CALL.saturating_mul(k))..];
     &rest[..rest.len().min(CALL)]
 }
 
@@ -75,7 +74,6 @@ struct Explained<'a> {
 
 impl<'a> Explained<'a> {
     fn put(&self, pen: &mut Pen, k: usize, code: u32, value: u32)
-        requires { 16 * k < 2 ^ 64 }
         ensures { Writes pen.old pen.new longest_line (explained (number_at self.now.first k) (part_at self.now.log.now k) code value) }
     {
         let part = part_of(self.log, k);
@@ -98,10 +96,12 @@ impl Form for Explained<'_> {
     }
 
     fn put_line(&self, pen: &mut Pen, k: usize, code: u32, value: u32)
-        requires { Room pen.old longest_line × (longest_line * k ≤ length pen.old.text.now) }
-        ensures { Wrote pen.old pen.new longest_line (explained (number_at self.now.first k) (part_at self.now.log.now k) code value) }
+        ensures with_room { Writes pen.old pen.new longest_line (explained (number_at self.now.first k) (part_at self.now.log.now k) code value) }
+        ensures without { Stays pen.old pen.new longest_line }
     {
-        self.put(pen, k, code, value)
+        if LONGEST <= pen.text.len().saturating_sub(pen.at) {
+            self.put(pen, k, code, value)
+        }
     }
 
     ghost some_bytes = { lit< tt };

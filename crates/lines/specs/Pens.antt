@@ -26,6 +26,10 @@ pub record Writes (before after : Pen) (most : ℕ) (xs : List ℕ) : Type 0 whe
   pub kept : length after.text.now ≡ length before.text.now
   pub piece : Room before most → Piece before.text.now before.at most xs after.at after.text.now
 
+-- where they have none, nothing is put
+abbrev pub Stays : Pen → Pen → ℕ → Type 0
+Stays before after most = (Room before most → ⊥) → after ≡ before
+
 module _ {a b : Pen} {m : ℕ} {xs : List ℕ} where
   pub in_room : Room a m → Writes a b m xs → Wrote a b m xs
   in_room h p = record { same = p.same; kept = p.kept; piece = p.piece h }

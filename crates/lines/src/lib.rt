@@ -10,7 +10,7 @@ ghost use Rattle.answer.specs.Stores.{cat};
 ghost use Rattle.text.specs.Text.{decimal, hex};
 ghost use Rattle.lines.specs.Lines.{line, line_at, line_in, Lines};
 ghost use Rattle.lines.specs.Steps.{Piece};
-ghost use Rattle.lines.specs.Pens.{put_by, Room, Wrote, Writes};
+ghost use Rattle.lines.specs.Pens.{put_by, Room, Wrote, Writes, Stays};
 
 use answer::Code;
 
@@ -54,9 +54,10 @@ pub trait Form {
     fn longest(&self) -> usize
         ensures { result ≡ longest };
 
+    // A line is put where the longest has room behind the pen, and else none.
     fn put_line(&self, pen: &mut Pen, k: usize, code: u32, value: u32)
-        requires { Room pen.old longest × (longest * k ≤ length pen.old.text.now) }
-        ensures { Wrote pen.old pen.new longest (line self.now k code value) };
+        ensures with_room { Writes pen.old pen.new longest (line self.now k code value) }
+        ensures without { Stays pen.old pen.new longest };
 
     ghost some_bytes: { 0 < longest };
 }
@@ -64,7 +65,7 @@ pub trait Form {
 // Ten digits, a space, ten digits and the line's end.
 pub const LONGEST: usize = 22;
 
-// A line of four bytes, which most are: an answer below ten with value 0. It costs no counting of digits and no test for room.
+// A line of four bytes, which most are: an answer below ten with value 0. It costs no counting of digits, and one test for room, the line's.
 fn put_short(pen: &mut Pen, code: u32)
     requires { (code < 10) × Room pen.old 22 }
     ensures { Wrote pen.old pen.new 22 (line code 0) }
@@ -100,7 +101,9 @@ impl Form for Numbers {
     }
 
     fn put_line(&self, pen: &mut Pen, _k: usize, code: u32, value: u32) {
-        put_numbers(pen, code, value)
+        if LONGEST <= pen.text.len().saturating_sub(pen.at) {
+            put_numbers(pen, code, value)
+        }
     }
 
     ghost some_bytes = { lit< tt };

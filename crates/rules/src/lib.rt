@@ -126,7 +126,11 @@ impl Slots for DomainIn<'_> {
     ghost held = { λ s. partitions_at s.slots.now s.d };
 
     fn slot(&self, k: usize) -> MemPartition {
-        partition_in(self.slots, SLOTS * self.d + k)
+        if k < SLOTS {
+            partition_in(self.slots, SLOTS * self.d + k)
+        } else {
+            MemPartition::default()
+        }
     }
 }
 

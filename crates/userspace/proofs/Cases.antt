@@ -9,10 +9,11 @@ use Rattle.userspace_names.specs.declared.InitCheck.{InitCheck}
 use Rattle.userspace_names.specs.declared.InitCheck.TheVariants.{MustBeInit, MustNotBeInit, DontCare}
 use Rattle.userspace.specs.declared.KernelObject.{KernelObject}
 use Rattle.std.specs.Prelude.{Err}
+use Rattle.answer.specs.declared.Code.{Code}
 use Rattle.answer.specs.declared.Code.TheVariants.{Einval, Eperm, Ebadf, Eaddrinuse}
 use Rattle.bits.specs.Bit.{bit_of, is_set, set_bit, clear_bit, bit_ext, bit_shr, set_other, clear_other}
 use Rattle.userspace_decide.specs.Decide.{Validated, passed, ALLOC, DRIVER, PUBLIC, judged}
-use Rattle.userspace.specs.Userspace.{initialised, public, holds, access, changed_at, done, refused, new_object, granted, revoked, recycled, type_fits, validated, with_word}
+use Rattle.userspace.specs.Userspace.{initialised, public, holds, access, changed_at, done, refused, new_object, granted, revoked, recycled, type_fits, validated, with_word, bit_in}
 use Rattle.userspace.specs.Laws.{either_way}
 use Rattle.userspace.specs.Table.{Op, step}
 use Rattle.userspace.proofs.Upstream.{grant_refuses, grant_does, grant_sets, grant_keeps_flags, revoke_keeps_flags, revoke_keeps_others, recycle_keeps_flags, access_bit}
@@ -167,3 +168,7 @@ always_refusing_fails o t r s p = p
 pub always_ok_fails : (o : KernelObject) (t : ℕ) (r : Validated) (s : _) → public o ≡ false → holds o t ≡ false → validate.Post (tt {0}) (o, (0, (t, (false, (DontCare, tt))))) r s → r ≡ Err Eperm
 unfolding validated judged type_fits
 always_ok_fails o t r s e h p = p ∙ rw (access_bit o t e ∙ h)
+
+-- told as a number and a value, a bit query that is refused has the value 0
+pub refused_bit_value : (c : Code) → bit_in (Err c) ≡ 0
+refused_bit_value c = refl

@@ -1,7 +1,7 @@
-// The permission leaf (docs/SPEC.md, 4): one kernel object by value, its permissions a word with a bit for each thread.
+// The permission leaf (docs/SPEC.md, 4): one kernel object, its permissions a word with a bit for each thread.
 // Upstream's userspace.rs with a word for its table of 64 booleans. What is promised: each function is the
 // definition of specs/Userspace for every record taken literally and every number; a thread from 64 on is
-// refused with EINVAL and the record comes back unchanged; the word acts as upstream's table (proofs/Table).
+// refused with EINVAL and the record stays as it was; the word acts as upstream's table (proofs/Table).
 #![tactic(auto)]
 
 ghost use Rattle.std.specs.Prelude.{◌≡◌};

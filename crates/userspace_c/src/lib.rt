@@ -5,9 +5,10 @@
 
 ghost use Rattle.std.specs.Prelude.{◌≡◌};
 ghost use Rattle.userspace_names.specs.Names.{mode_of};
+ghost use Rattle.userspace_decide.specs.Decide.{number_in, answer_of};
 ghost use Rattle.userspace_c.specs.Exported.{Grants, Revokes, Recycles, Queries, may_use, valid_code};
 
-use answer::Answer;
+use answer::{Answer, Code};
 use userspace::KernelObject;
 use userspace_names::InitCheck;
 
@@ -65,6 +66,16 @@ pub fn userspace_check_access(flags: u8, word: u64, tid: u32, supervisor: bool) 
     object(0, flags, word).check_access(tid, supervisor)
 }
 
+// A refusal by its number.
+fn by_number(v: Result<(), Code>) -> Result<(), u32>
+    ensures { number_in result ≡ (answer_of v).code }
+{
+    match v {
+        Ok(()) => Ok(()),
+        Err(code) => Err(answer::number(code)),
+    }
+}
+
 // A mode other than 0 and -1 means either, as validate_decide has it.
 pub fn userspace_validate(
     kind: u8,
@@ -78,7 +89,7 @@ pub fn userspace_validate(
     ensures { result ≡ valid_code kind flags word expected tid supervisor mode }
 {
     let v = object(kind, flags, word).validate(expected, tid, supervisor, check(mode));
-    userspace_decide::validated_number(v)
+    userspace_decide::validated_number(by_number(v))
 }
 
 fn check(mode: i32) -> InitCheck

@@ -3,7 +3,7 @@ use Rattle.std.specs.Prelude.{ℕ, Bool, cond, Result, Ok, Err, ⊤}
 use Rattle.answer.specs.declared.Answer.{Answer}
 use Rattle.answer.specs.declared.Code.TheVariants as codes
 use Rattle.answer.specs.declared.Code.{Code}
-use Rattle.answer.specs.Answer.{done_or}
+use Rattle.answer.specs.Answer.{number_of, done_or}
 use Rattle.userspace_names.specs.declared.InitCheck.{InitCheck}
 use Rattle.userspace_names.specs.declared.InitCheck.TheVariants.{MustBeInit, MustNotBeInit, DontCare}
 
@@ -33,6 +33,11 @@ passed = Ok tt
 -- the number and the value that each answer of a validation stands for (SPEC 4.21)
 abbrev pub answer_of : Validated → Answer
 answer_of v = done_or v
+
+-- the same where a refusal is told by its number, whichever that is
+abbrev pub number_in : Result ⊤ ℕ → ℕ
+number_in (Ok x) = number_of codes.Ok
+number_in (Err n) = n
 
 -- whether the object is as the mode wants it (SPEC 4.18 to 4.20)
 abbrev pub init_judged : Bool → InitCheck → Validated

@@ -5,9 +5,9 @@
 ghost use Rattle.std.specs.Prelude.{◌≡◌, ◌||◌};
 ghost use Rattle.bits.specs.Bit.{set_bit, clear_bit};
 ghost use Rattle.userspace_names.specs.Names.{mode_of};
-ghost use Rattle.userspace_decide.specs.Decide.{INITIALISED, PUBLIC, judged, answer_of};
+ghost use Rattle.userspace_decide.specs.Decide.{INITIALISED, PUBLIC, judged, number_in};
 
-use answer::{Answer, Code};
+use answer::Code;
 
 // The flags that upstream's decisions set and clear; the record's constants are these.
 pub const FLAG_INITIALIZED: u8 = 1;
@@ -64,9 +64,12 @@ pub fn make_public_flags_decide(flags: u8) -> u8
     flags | FLAG_PUBLIC
 }
 
-// The table's number of a validation's answer, for whoever answers with numbers.
-pub fn validated_number(v: Result<(), Code>) -> u32
-    ensures { result ≡ (answer_of v).code }
+// The number of a validation's answer, for whoever answers with numbers: OK's, or the refusal's, whichever number that is.
+pub fn validated_number(v: Result<(), u32>) -> u32
+    ensures { result ≡ number_in v }
 {
-    Answer::from(v).code
+    match v {
+        Ok(()) => answer::OK,
+        Err(n) => n,
+    }
 }
